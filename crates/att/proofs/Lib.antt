@@ -1,0 +1,3 @@
+pub mod FieldBytes
+pub mod NoShift
+pub mod RoundTrip
