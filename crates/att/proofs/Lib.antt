@@ -1,3 +1,4 @@
 pub mod FieldBytes
 pub mod NoShift
 pub mod RoundTrip
+pub mod TypedMeans

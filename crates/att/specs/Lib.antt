@@ -1,3 +1,4 @@
 pub mod Items
 pub mod Proper
+pub mod Typed
 pub mod Wire
