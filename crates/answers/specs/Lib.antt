@@ -1,0 +1,4 @@
+pub mod Cases
+pub mod Replies
+pub mod Serve
+pub mod View
