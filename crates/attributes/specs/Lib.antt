@@ -1,5 +1,12 @@
-pub mod Additions
-pub mod Ledger
 pub mod Records
 pub mod Soundness
+pub mod Ledger
+pub mod Additions
 pub mod Stores
+pub mod ListLaws
+pub mod SoundnessLaws
+pub mod StoreLaws
+pub mod LedgerLaws
+pub mod FindLaws
+pub mod AdditionLaws
+pub mod History
