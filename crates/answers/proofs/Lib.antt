@@ -1,1 +1,3 @@
 pub mod CasesHold
+pub mod Lists
+pub mod Steps

@@ -1,4 +1,6 @@
-pub mod Cases
+pub mod View
 pub mod Replies
 pub mod Serve
-pub mod View
+pub mod Cases
+pub mod Demand3
+pub mod Auditor
