@@ -1,3 +1,4 @@
 pub mod CasesHold
 pub mod Lists
 pub mod Steps
+pub mod Demand3
