@@ -2,3 +2,5 @@ pub mod CasesHold
 pub mod Lists
 pub mod Steps
 pub mod Demand3
+pub mod Plain
+pub mod Held
