@@ -4,3 +4,4 @@ pub mod Steps
 pub mod Demand3
 pub mod Plain
 pub mod Held
+pub mod Witness
