@@ -47,7 +47,7 @@ changed-value s k Nothing e = refl
 changed-value s k (Stores h v) e = ap (valueAt k) (store-ledger s h v e) ∙ put-value h k v (ledger s)
 changed-value s k (Agrees mtu) e = refl
 
-step-value : (s : State) (e : Step) (k : ℕ) → sound s ≡ true
+pub step-value : (s : State) (e : Step) (k : ℕ) → sound s ≡ true
     → valueAt k (ledger (after s e)) ≡ lastFor k (valueAt k (ledger s)) (acceptedOf (asked s e) (ledger s))
 unfolding ledger after asked
 step-value s (Send p room) k o = ap (λ (t : State). valueAt k (ledger t)) (send-is s p room o) ∙ changed-value s k (asked s (Send p room)) o

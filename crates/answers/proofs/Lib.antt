@@ -5,3 +5,5 @@ pub mod Demand3
 pub mod Plain
 pub mod Held
 pub mod Witness
+pub mod Walk
+pub mod Writes

@@ -17,3 +17,12 @@ pub zip-map : {I A B C : Type 0} (k : I → C) (F : A → B → C) (f : I → A)
     → ((i : I) → k i ≡ F (f i) (g i)) → map k l ≡ zipWith F (map f l) (map g l)
 zip-map k F f g [] h = refl
 zip-map k F f g (i ∷ l) h = ap₂ (λ y m. y ∷ m) (h i) (zip-map k F f g l h)
+
+-- a property of each element
+abbrev pub Each : {A : Type 0} → (A → Type 0) → List A → Type 0
+Each Q [] = Unit
+Each Q (x ∷ xs) = Q x × Each Q xs
+
+pub each : {A : Type 0} (Q : A → Type 0) (l : List A) → ((x : A) → Q x) → Each Q l
+each Q [] f = tt
+each Q (x ∷ xs) f = (f x, each Q xs f)
