@@ -3,7 +3,8 @@ pub mod Lists
 pub mod Steps
 pub mod Demand3
 pub mod Plain
-pub mod Held
 pub mod Witness
+pub mod Held
 pub mod Walk
 pub mod Writes
+pub mod Searches

@@ -11,9 +11,9 @@ use Rattle.codec.specs.declared.Refusal.{Refusal}
 use Rattle.att.specs.Items.{joined}
 use Rattle.att.specs.Wire.{Meaning, meaning, shapeOf, shapeMeans, strict}
 use Rattle.answers.specs.View.{View, Reading, Value, NoRead}
+use Rattle.answers.specs.Auditor.{Each}
 use Rattle.answers.specs.Replies.{Packet, Found, None, Failed, Listed, listing, search, within, Silence, Refuses, Reply, Part, Row, Serves, NotServed, only, error, exchange, at, reading, read, blob, write, rangeOk, searched, findInformation, findByTypeValue, readByType, readByGroupType, nth, served, rowReply, request, silent, quietly, command, replyTo, linkOk, reply}
 use Rattle.answers.specs.declared.Link.{Link}
-use Rattle.answers.proofs.Lists.{Each}
 
 -- Each kind of answer to the packet `op` with the numbers `ns` and the tail `t`.
 pub record Leaves (vs : List View) (l : Link) (op : ℕ) (ns t : List ℕ) (P : Reply → Type 0) : Type 0 where
