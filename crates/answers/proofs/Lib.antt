@@ -8,3 +8,5 @@ pub mod Held
 pub mod Walk
 pub mod Writes
 pub mod Searches
+pub mod SentBack
+pub mod Told

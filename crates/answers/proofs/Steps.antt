@@ -132,3 +132,8 @@ pub run-sound : (s : State) (es : List Step) → sound s ≡ true → sound (run
 unfolding run
 run-sound s [] k = k
 run-sound s (e ∷ es) k = run-sound (after s e) es (after-sound s e k)
+
+pub run-skeleton : (s : State) (es : List Step) → sound s ≡ true → skeleton (run s es .table) ≡ skeleton (s .table)
+unfolding run
+run-skeleton s [] k = refl
+run-skeleton s (e ∷ es) k = run-skeleton (after s e) es (after-sound s e k) ∙ after-skeleton s e k
