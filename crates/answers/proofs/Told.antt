@@ -1,7 +1,7 @@
 -- The auditor's sentence, what is told: what a client takes from an answer is what is held at that very handle, and a list has its
 -- items in the order of the handles, each with its own value. By the walk over all replies. A sound table has each handle once, so
 -- the value at a handle is that of the one attribute that has it; what was sent is read back as it was meant.
-use Prim.Native.Nat.{ℕ, _+_, _-_, _≤_, _<_}
+use Prim.Native.Nat.{ℕ, _+_, _-_, _≤_, _<_, min, max}
 use mathlib.Core.Bool.{Bool, true, false, _&&_, _||_, not}
 use mathlib.Core.Path.{_≡_, refl, sym, _∙_, ap}
 use mathlib.Core.List.{List, [], _∷_, _++_, map}
@@ -30,8 +30,8 @@ use Rattle.attributes.specs.Records.{entries, bare, skeleton}
 use Rattle.attributes.specs.Soundness.{typeOk, recordOk, slotsEnd, recordsOk}
 use Rattle.attributes.specs.SoundnessLaws.{good, sound-parts}
 use Rattle.attributes.specs.declared.Record.{Record}
-use Rattle.answers.specs.View.{View, view, Reading, Value, NoRead, readingOf}
-use Rattle.answers.specs.Replies.{Says, Packet, Silence, Refuses, Effect, Nothing, Reply, Part, Skip, Take, Fail, Listed, doing, only, errorPacket, error, exchange, writing, at, write, search, keep, within, rangeOk, searched, groups, outlines, groupEnd, endOf, info, infos, findInformation, holds, pair, pairs, findByTypeValue, valued, typed, values, readByType, grouped, groupValues, readByGroupType, nth, linkOk, replyTo, reply}
+use Rattle.answers.specs.View.{View, view, Reading, Value, NoRead, Writing, UpTo, NoWrite, readingOf}
+use Rattle.answers.specs.Replies.{Says, Packet, Silence, Refuses, Effect, Nothing, Stores, Agrees, Reply, Part, Skip, Take, Fail, Listed, doing, only, errorPacket, error, exchange, writing, at, write, search, keep, within, rangeOk, searched, groups, outlines, groupEnd, endOf, info, infos, findInformation, holds, pair, pairs, findByTypeValue, valued, typed, values, read, blob, readByType, grouped, groupValues, readByGroupType, nth, linkOk, replyTo, reply}
 use Rattle.answers.specs.Serve.{State, sound, ledger, views, changed, Heard, Bytes, Served, serving, unlikely, encodedBy, saidBy, serve, Step, run}
 use Rattle.answers.specs.Auditor.{accepted, lastFor, Told, tells, TrueOf, toldIn, toldBy, readHeard, told, itemsIn, Starts, between, infoItem, pairItem, valueItem, groupItem, holding, dues, due, Each, Typed}
 use Rattle.answers.specs.declared.Link.{Link}
@@ -194,3 +194,297 @@ module _ (s : State) (op room : ℕ) (ns t : List ℕ) where
       fair-packet (wire.meaning a ks (joined is)) (a ∷ (wire.sentFields ws ks ++ joined is)) Nothing
       (list-sent a ws ks width least is row fields long all)
       (rw (list-read a ws ks width least is row fields long all) (f (items-back a ws ks width least is row fields long all)))
+
+-- What the attributes give to the searches, and how long an item is.
+given-valued : (e : Bool) (i : Item) (front : List ℕ) (n : ℕ) → Given true (front ++ take n (i .value)) (valued (readingOf e i) front n)
+unfolding valued
+given-valued e i front n = by (i .readable) (not (i .readEncrypted) || e)
+  where
+    by : (a c : Bool) → Given true (front ++ take n (i .value)) (valued (pick a (pick c (Value (i .value)) (NoRead 0x0F)) (NoRead 0x02)) front n)
+    by true true = refl
+    by true false = tt
+    by false c = tt
+
+abbrev Told09 : ℕ → Type 0
+Told09 n = (2 ≤ n) × (n < 256)
+
+sized-valued : (r : Reading) (front : List ℕ) (n : ℕ) → 2 ≤ length front → length front + n < 256 → Sized Told09 (valued r front n)
+unfolding valued
+sized-valued (Value b) front n h k = (simp length-append (omega arith), simp (length-append, length-take) (omega arith))
+sized-valued (NoRead code) front n h k = tt
+
+sized-if : (B : ℕ → Type 0) (c : Bool) (p : Part) → Sized B p → Sized B (pick c p Skip)
+sized-if B true p h = h
+sized-if B false p h = tt
+
+holds-value : (a c : Bool) (x value : List ℕ) → holds (pick a (pick c (Value x) (NoRead 0x0F)) (NoRead 0x02)) value ≡ true → x ≡ value
+unfolding holds
+holds-value true true x value e = same-equal x value e
+holds-value true false x value e = let z : _≡_ {A = ℕ} 0 1 = cc in absurd (omega arith)
+holds-value false c x value e = let z : _≡_ {A = ℕ} 0 1 = cc in absurd (omega arith)
+
+format-small : (c : Bool) → pick c 1 2 < 256
+format-small true = omega arith
+format-small false = omega arith
+
+abbrev ofKind : List ℕ → Item → Bool
+ofKind kind i = equalTypes (i .kind) kind
+
+keep-all : (l : List Item) → keep (λ (i : Item). true) l ≡ l
+keep-all [] = refl
+keep-all (i ∷ l) = ap (λ (m : List Item). i ∷ m) (keep-all l)
+
+module _ (s : State) (op room : ℕ) (ns t : List ℕ) (kn : Each (Known (ledger s)) (ledger s)) (most : s .link .mtu ≤ 247) where
+  -- what is told is true where the value at the handle is the one that it was cut from
+  cut-truth : (g h n : ℕ) (v : List ℕ) → g ≡ h → valueAt h (ledger s) ≡ v → take n v ≡ take (length (take n v)) (valueAt g (ledger s))
+  cut-truth g h n v e a = cut n v ∙ ap (take (length (take n v))) (sym (ap (λ (x : ℕ). valueAt x (ledger s)) e ∙ a))
+
+  Shows : View → Type 0
+  Shows v = (b : List ℕ) → v .reading ≡ Value b → valueAt (v .handle) (ledger s) ≡ b
+
+  shows-all : Each Shows (views s)
+  unfolding Shows
+  shows-all =
+      each-map Shows (view (s .link .encrypted)) (ledger s)
+      (each-so (Known (ledger s)) (λ (i : Item). Shows (view (s .link .encrypted) i)) (ledger s)
+      (λ i a b h. a .alone ∙ shown-value (s .link .encrypted) i b h) kn)
+
+  fair-0A : Fair s op room ns t (read (views s) (s .link) (nth ns 0))
+  unfolding Shows FairRead wire.shapeOf wire.rows
+  fair-0A =
+      let l = s .link in
+      by-read (Fair s op room ns t) Shows (views s) l (nth ns 0) shows-all (λ code. fair-error s op room ns t 0x0A (nth ns 0) code)
+      (λ v b shows at-it held-there. fair-value s op room ns t 0x0B (take (l .mtu - 1) b) refl
+      (refl, (cut-truth (nth ns 0) (v .handle) (l .mtu - 1) b (sym at-it) (shows b held-there), tt)))
+
+  fair-0C : Fair s op room ns t (blob (views s) (s .link) (nth ns 0) (nth ns 1))
+  unfolding Shows FairRead wire.shapeOf wire.rows
+  fair-0C =
+      let l = s .link in
+      by-blob (Fair s op room ns t) Shows (views s) l (nth ns 0) (nth ns 1) shows-all (λ code. fair-error s op room ns t 0x0C (nth ns 0) code)
+      (λ v b shows at-it held-there. fair-value s op room ns t 0x0D (take (l .mtu - 1) (drop (nth ns 1) b)) refl
+      (refl, (cut (l .mtu - 1) (drop (nth ns 1) b)
+      ∙ ap (λ (x : List ℕ). take (length (take (l .mtu - 1) (drop (nth ns 1) b))) (drop (nth ns 1) x))
+      (sym (ap (λ (h : ℕ). valueAt h (ledger s)) (sym at-it) ∙ shows b held-there)), tt)))
+
+  -- the lists: the start of what is due, and what is true of each item
+  module _ (f : View → Part) (match : Item → Bool) (g : Item → List ℕ) (ok : (i : Item) → Given (match i) (g i) (f (view (s .link .encrypted) i)))
+      (from to size n : ℕ) (is : List (List ℕ)) (found : search f size (within from to (views s)) ≡ Listed n is) where
+    starts : Starts is (map g (keep match (between from to (ledger s))))
+    starts =
+        on-list (λ k xs. Starts xs (map g (keep match (between from to (ledger s)))))
+        (search f size (map (view (s .link .encrypted)) (between from to (ledger s)))) n is
+        (search-starts (s .link .encrypted) f match g ok size (between from to (ledger s)))
+        (ap (search f size) (sym (within-view (s .link .encrypted) from to (ledger s))) ∙ found)
+
+    each-item : (Q : List ℕ → Type 0) → ((i : Item) → Known (ledger s) i → match i ≡ true → Q (g i)) → Each Q is
+    each-item Q h =
+        let range = between from to (ledger s) in
+        each-start Q is (map g (keep match range)) starts
+        (each-map Q g (keep match range)
+        (each-kept (λ (i : Item). Q (g i)) match range
+        (each-so (Known (ledger s)) (λ (i : Item). match i ≡ true → Q (g i)) range h (each-keep (Known (ledger s)) _ (ledger s) kn))))
+
+  sizes : (B : ℕ → Type 0) (f : View → Part) (vs : List View) (size n : ℕ) (is : List (List ℕ)) → Each (λ v. Sized B (f v)) vs
+      → search f size vs ≡ Listed n is → B n × AllOf n is
+  sizes B f vs size n is a found = on-list (λ k xs. B k × AllOf k xs) (search f size vs) n is (search-sizes B f size vs a) found
+
+  due-row : (o : ℕ) (x : List (List ℕ)) → op ≡ o → lookup o (dues s ns t) [] ≡ x → due s (wire.meaning op ns t) ≡ x
+  unfolding due
+  due-row o x e h = ap (λ (k : ℕ). lookup k (dues s ns t) []) e ∙ h
+
+  fair-08 : op ≡ 0x08 → Fair s op room ns t (readByType (views s) (s .link) (nth ns 0) (nth ns 1) t)
+  unfolding readByType values typed FairRead wire.shapeOf wire.rows
+  fair-08 e =
+      let l = s .link in
+      let vs = views s in
+      let from = nth ns 0 in
+      let to = nth ns 1 in
+      by-searched (Fair s op room ns t) 0x08 vs (l .mtu - 2) from to values (typed l t) (λ h code. fair-error s op room ns t 0x08 h code)
+      (λ n is found.
+      let ok : (i : Item) → Given (equalTypes (i .kind) t) (valueItem l i) (typed l t (view (l .encrypted) i)) = λ i.
+          given-if (equalTypes (i .kind) t) (valueItem l i) (valued (readingOf (l .encrypted) i) (bytesOf 2 (i .handle)) (l .mtu - 4))
+          (λ q. given-valued (l .encrypted) i (bytesOf 2 (i .handle)) (l .mtu - 4)) in
+      let size = sizes Told09 (typed l t) (within from to vs) (l .mtu - 2) n is
+          (each (λ (v : View). Sized Told09 (typed l t v)) (within from to vs)
+          (λ v. sized-if Told09 (equalTypes (v .kind) t) (valued (v .reading) (bytesOf 2 (v .handle)) (l .mtu - 4))
+          (sized-valued (v .reading) (bytesOf 2 (v .handle)) (l .mtu - 4) (omega arith) (omega arith)))) found in
+      fair-list s op room ns t 0x09 (1 ∷ []) (n ∷ []) wire.first 2 is refl (omega (arith, size .0 .1), tt) (size .0 .0) (size .1)
+      (λ back. rw (back, due-row 0x08 _ e refl)
+      (starts (typed l t) (ofKind t) (valueItem l) ok from to (l .mtu - 2) n is found,
+      each-map (Truth s op room ns t) (λ (b : List ℕ). tells (numberAt 2 0 b) 0 (drop 2 b)) is
+      (each-item (typed l t) (ofKind t) (valueItem l) ok from to (l .mtu - 2) n is found
+      (λ (b : List ℕ). Truth s op room ns t (tells (numberAt 2 0 b) 0 (drop 2 b)))
+      (λ i a m. cut-truth (numberOf (bytesOf 2 (i .handle))) (i .handle) (l .mtu - 4) (i .value) (number-bytes 2 (i .handle) (a .small)) (a .alone))))))
+
+  fair-10 : op ≡ 0x10 → Fair s op room ns t (readByGroupType (views s) (s .link) (nth ns 0) (nth ns 1) t)
+  unfolding readByGroupType groupValues grouped FairRead wire.shapeOf wire.rows
+  fair-10 e =
+      let l = s .link in
+      let vs = views s in
+      let from = nth ns 0 in
+      let to = nth ns 1 in
+      by-pick (Fair s op room ns t) (rangeOk from to && not (groups t)) (error 0x10 from 0x10)
+      (searched 0x10 vs (l .mtu - 2) from to groupValues (grouped vs l t))
+      (fair-error s op room ns t 0x10 from 0x10)
+      (by-searched (Fair s op room ns t) 0x10 vs (l .mtu - 2) from to groupValues (grouped vs l t) (λ h code. fair-error s op room ns t 0x10 h code)
+      (λ n is found.
+      let ok : (i : Item) → Given (equalTypes (i .kind) t) (groupItem vs l i) (grouped vs l t (view (l .encrypted) i)) = λ i.
+          let front = bytesOf 2 (i .handle) ++ bytesOf 2 (groupEnd (outlines vs) (i .handle)) in
+          given-if (equalTypes (i .kind) t) (groupItem vs l i) (valued (readingOf (l .encrypted) i) front (l .mtu - 6))
+          (λ q. given-valued (l .encrypted) i front (l .mtu - 6)) in
+      let size = sizes Told09 (grouped vs l t) (within from to vs) (l .mtu - 2) n is
+          (each (λ (v : View). Sized Told09 (grouped vs l t v)) (within from to vs)
+          (λ v. let front = bytesOf 2 (v .handle) ++ bytesOf 2 (groupEnd (outlines vs) (v .handle)) in
+          sized-if Told09 (equalTypes (v .kind) t) (valued (v .reading) front (l .mtu - 6))
+          (sized-valued (v .reading) front (l .mtu - 6) (omega arith) (omega arith)))) found in
+      fair-list s op room ns t 0x11 (1 ∷ []) (n ∷ []) wire.first 4 is refl (omega (arith, size .0 .1), tt) (size .0 .0) (size .1)
+      (λ back. rw (back, due-row 0x10 _ e refl)
+      (starts (grouped vs l t) (ofKind t) (groupItem vs l) ok from to (l .mtu - 2) n is found,
+      each-map (Truth s op room ns t) (λ (b : List ℕ). tells (numberAt 2 0 b) 0 (drop 4 b)) is
+      (each-item (grouped vs l t) (ofKind t) (groupItem vs l) ok from to (l .mtu - 2) n is found
+      (λ (b : List ℕ). Truth s op room ns t (tells (numberAt 2 0 b) 0 (drop 4 b)))
+      (λ i a m. cut-truth (numberOf (bytesOf 2 (i .handle))) (i .handle) (l .mtu - 6) (i .value) (number-bytes 2 (i .handle) (a .small)) (a .alone)))))))
+
+  fair-06 : op ≡ 0x06 → Fair s op room ns t (findByTypeValue (views s) (s .link) (nth ns 0) (nth ns 1) (nth ns 2) t)
+  unfolding findByTypeValue pairs pair FairRead wire.shapeOf wire.rows
+  fair-06 e =
+      let l = s .link in
+      let vs = views s in
+      let from = nth ns 0 in
+      let to = nth ns 1 in
+      let kind = bytesOf 2 (nth ns 2) in
+      by-searched (Fair s op room ns t) 0x06 vs (l .mtu - 1) from to pairs (pair vs kind t) (λ h code. fair-error s op room ns t 0x06 h code)
+      (λ n is found.
+      let ok : (i : Item) → Given (holding (l .encrypted) kind t i) (pairItem vs kind i) (pair vs kind t (view (l .encrypted) i)) = λ i.
+          given-if (holding (l .encrypted) kind t i) (pairItem vs kind i) (Take (pairItem vs kind i)) (λ q. refl) in
+      let size = sizes (λ k. k ≡ 4) (pair vs kind t) (within from to vs) (l .mtu - 1) n is
+          (each (λ (v : View). Sized (λ k. k ≡ 4) (pair vs kind t v)) (within from to vs)
+          (λ v. sized-if (λ k. k ≡ 4) (equalTypes (v .kind) kind && holds (v .reading) t)
+          (Take (bytesOf 2 (v .handle) ++ bytesOf 2 (endOf vs kind (v .handle)))) refl)) found in
+      let all : AllOf 4 is = rw (size .0) at (size .1) in
+      fair-list s op room ns t 0x07 [] [] (λ ks. 4) 2 is refl tt (omega arith) all
+      (λ back. rw (back, due-row 0x06 _ e refl)
+      (starts (pair vs kind t) (holding (l .encrypted) kind t) (pairItem vs kind) ok from to (l .mtu - 1) n is found,
+      each-map (Truth s op room ns t) (λ (b : List ℕ). tells (numberAt 2 0 b) 0 t) is
+      (each-item (pair vs kind t) (holding (l .encrypted) kind t) (pairItem vs kind) ok from to (l .mtu - 1) n is found
+      (λ (b : List ℕ). Truth s op room ns t (tells (numberAt 2 0 b) 0 t))
+      (λ i a m.
+      let h : numberOf (bytesOf 2 (i .handle)) ≡ i .handle = number-bytes 2 (i .handle) (a .small) in
+      let x : i .value ≡ t = holds-value (i .readable) (not (i .readEncrypted) || l .encrypted) (i .value) t (both (equalTypes (i .kind) kind) _ m .1) in
+      sym (take-length t) ∙ ap (take (length t)) (sym (ap (λ (k : ℕ). valueAt k (ledger s)) h ∙ a .alone ∙ x)))))))
+
+  fair-04 : op ≡ 0x04 → Fair s op room ns t (findInformation (views s) (s .link) (nth ns 0) (nth ns 1))
+  unfolding findInformation infos info FairRead wire.shapeOf wire.rows
+  fair-04 e =
+      let l = s .link in
+      let vs = views s in
+      let from = nth ns 0 in
+      let to = nth ns 1 in
+      let range = between from to (ledger s) in
+      by-searched (Fair s op room ns t) 0x04 vs (l .mtu - 2) from to infos info (λ h code. fair-error s op room ns t 0x04 h code)
+      (λ n is found.
+      let long : Each (λ (v : View). Sized Told05 (info v)) (map (view (l .encrypted)) range) =
+          each-map (λ (v : View). Sized Told05 (info v)) (view (l .encrypted)) range
+          (each-so (Known (ledger s)) (λ (i : Item). Sized Told05 (info (view (l .encrypted) i))) range
+          (λ i a. let w : length (bytesOf 2 (i .handle) ++ i .kind) ≡ 2 + length (i .kind) = omega arith in rw w (a .form))
+          (each-keep (Known (ledger s)) _ (ledger s) kn)) in
+      let size = sizes Told05 info (within from to vs) (l .mtu - 2) n is (rw (within-view (l .encrypted) from to (ledger s)) long) found in
+      let width : wire.byFormat (format n ∷ []) ≡ n = size .0 .0 in
+      fair-list s op room ns t 0x05 (1 ∷ []) (format n ∷ []) wire.byFormat 2 is refl (format-small (eqb n 4), tt)
+      (rw width (size .0 .1)) (rw width (size .1))
+      (λ back. rw (back, due-row 0x04 _ e refl)
+      (rw (keep-all range) at (starts info (λ (i : Item). true) infoItem (λ i. refl) from to (l .mtu - 2) n is found), tt)))
+
+  fair-12 : Fair s op room ns t (write (views s) (nth ns 0) t)
+  unfolding write writing
+  fair-12 =
+      by-at (Fair s op room ns t) (λ v. Unit) (nth ns 0) (views s) (λ v. writing (nth ns 0) t (v .writing)) (error 0x12 (nth ns 0) 0x01)
+      (each (λ v. Unit) (views s) (λ v. tt)) (λ v u h. one (v .writing)) (fair-error s op room ns t 0x12 (nth ns 0) 0x01)
+    where
+      one : (w : Writing) → Fair s op room ns t (writing (nth ns 0) t w)
+      one (UpTo c) =
+          by-pick (Fair s op room ns t) (leb (length t) c) (doing (Packet (wire.meaning 0x13 [] [])) (Stores (nth ns 0) t)) (error 0x12 (nth ns 0) 0x0D)
+          (fair-13 s op room ns t (Stores (nth ns 0) t)) (fair-error s op room ns t 0x12 (nth ns 0) 0x0D)
+      one (NoWrite code) = fair-error s op room ns t 0x12 (nth ns 0) code
+
+  leaves : Leaves (views s) (s .link) op ns t (Fair s op room ns t)
+  unfolding exchange
+  leaves = record {
+    errors = λ h code. fair-error s op room ns t op h code;
+    quiet = fair-quiet s op room ns t Nothing;
+    refusals = fair-refusal s op room ns t;
+    reads = λ q. fair-0A;
+    blobs = λ q. fair-0C;
+    informs = fair-04;
+    finds = fair-06;
+    types = fair-08;
+    groupings = fair-10;
+    agrees = λ q. by-pick (Fair s op room ns t) (s .link .exchanged) (error 0x02 0 0x06)
+        (doing (Packet (wire.meaning 0x03 (247 ∷ []) [])) (Agrees (max 23 (min 247 (nth ns 0)))))
+        (fair-error s op room ns t 0x02 0 0x06) (fair-03 s op room ns t 247 (Agrees (max 23 (min 247 (nth ns 0)))));
+    writes = λ q. fair-12;
+    commands = fair-quiet s op room ns t (write (views s) (nth ns 0) t .effect);
+  }
+
+-- The responder. A link within its bounds has an MTU of at most 247; on any other the answer is a refusal.
+link-most : (l : Link) → linkOk l ≡ true → l .mtu ≤ 247
+unfolding linkOk
+link-most l e = leb-true (l .mtu) 247 (both (leb 23 (l .mtu)) _ e .1)
+
+bad-link : (vs : List View) (l : Link) (p : List ℕ) (room : ℕ) → linkOk l ≡ false → reply vs l p room ≡ only (Refuses BadLink)
+unfolding reply
+bad-link vs l p room e =
+    ap (λ (b : Bool). pick b (pick (leb (l .mtu) room) (replyTo vs l p) (only (Refuses InsufficientSpace))) (only (Refuses BadLink))) e
+
+fair-reply : (s : State) (op : ℕ) (p : List ℕ) (room : ℕ) → sound s ≡ true → Typed s
+    → Fair s op room (wire.shapeMeans op (wire.shapeOf op) p .numbers) (wire.shapeMeans op (wire.shapeOf op) p .tail) (reply (views s) (s .link) (op ∷ p) room)
+fair-reply s op p room k typed = by (linkOk (s .link)) refl
+  where
+    by : (b : Bool) → linkOk (s .link) ≡ b
+        → Fair s op room (wire.shapeMeans op (wire.shapeOf op) p .numbers) (wire.shapeMeans op (wire.shapeOf op) p .tail) (reply (views s) (s .link) (op ∷ p) room)
+    by true h =
+        by-reply _ (views s) (s .link) op p room
+        (leaves s op room (wire.shapeMeans op (wire.shapeOf op) p .numbers) (wire.shapeMeans op (wire.shapeOf op) p .tail) (known s k typed) (link-most (s .link) h))
+    by false h =
+        rw (bad-link (views s) (s .link) (op ∷ p) room h)
+        (fair-refusal s op room (wire.shapeMeans op (wire.shapeOf op) p .numbers) (wire.shapeMeans op (wire.shapeOf op) p .tail) BadLink)
+
+fair-serve : (s : State) (p : List ℕ) (room : ℕ) (q : wire.Meaning) → sound s ≡ true → Typed s → wire.read p ≡ wire.Means q
+    → FairRead s q (readHeard (serve s p room .heard))
+unfolding wire.read Fair
+fair-serve s [] room q k typed e = let z : _≡_ {A = ℕ} 0 1 = cc in absurd (omega arith)
+fair-serve s (op ∷ p) room q k typed e =
+    rw (sym (meant (wire.decodes op p) e), serve-is s (op ∷ p) room k) (fair-reply s op p room k typed)
+  where
+    meant : (b : Bool) → pick b (wire.Means (wire.shapeMeans op (wire.shapeOf op) p)) wire.NotRead ≡ wire.Means q → wire.shapeMeans op (wire.shapeOf op) p ≡ q
+    meant true h = cc
+    meant false h = let z : _≡_ {A = ℕ} 0 1 = cc in absurd (omega arith)
+
+-- IN A LIST, EACH HANDLE STANDS BEFORE ITS OWN VALUE: the items that a client reads in the answer to 04, 06, 08 or 10 are the first of
+-- those that are due to its request, in order.
+pub lists-in-order : (s : State) (p : List ℕ) (room : ℕ) (q : wire.Meaning) → sound s ≡ true → Typed s → wire.read p ≡ wire.Means q
+    → Starts (itemsIn (readHeard (serve s p room .heard))) (due s q)
+unfolding FairRead
+lists-in-order s p room q k typed e = fair-serve s p room q k typed e .0
+
+-- WHAT IS TOLD OF A HANDLE IS WHAT IS HELD THERE, by 0A and 0C and in every list.
+pub told-is-held : (s : State) (p : List ℕ) (room : ℕ) → sound s ≡ true → Typed s
+    → Each (λ (x : Told). TrueOf (valueAt (x .handle) (ledger s)) x) (told s p room)
+unfolding told FairRead
+told-is-held s p room k typed = by (wire.read p) refl
+  where
+    by : (r : wire.Read) → wire.read p ≡ r
+        → Each (λ (x : Told). TrueOf (valueAt (x .handle) (ledger s)) x) (toldBy r (readHeard (serve s p room .heard)))
+    by (wire.Means q) e = fair-serve s p room q k typed e .1
+    by wire.NotRead e = tt
+
+-- THE AUDITOR'S SENTENCE. Whatever own stores, packets and changes of encryption came before, all that a client is told of a handle is
+-- of the value that was last written to this handle, or of the one that it held at the start, where none was.
+pub expiry-is-not-lot : (s : State) (es : List Step) (p : List ℕ) (room : ℕ) → sound s ≡ true → Typed s
+    → Each (λ (x : Told). TrueOf (lastFor (x .handle) (valueAt (x .handle) (ledger s)) (accepted s es)) x) (told (run s es) p room)
+expiry-is-not-lot s es p room k typed =
+    each-so (λ (x : Told). TrueOf (valueAt (x .handle) (ledger (run s es))) x)
+    (λ (x : Told). TrueOf (lastFor (x .handle) (valueAt (x .handle) (ledger s)) (accepted s es)) x) (told (run s es) p room)
+    (λ x h. h ∙ ap (λ (v : List ℕ). take (length (x .bytes)) (drop (x .offset) v)) (held s es (x .handle) k))
+    (told-is-held (run s es) p room (run-sound s es k) (rw (run-skeleton s es k) typed))
