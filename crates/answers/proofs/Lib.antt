@@ -10,3 +10,4 @@ pub mod Writes
 pub mod Searches
 pub mod SentBack
 pub mod Told
+pub mod OneHandle

@@ -9,15 +9,15 @@ use Rattle.codec.specs.Cases.{pick, lookup}
 use Rattle.primitives.specs.Numbers.{bytesOf, numberAt}
 use Rattle.uuid.specs.Uuids.{equalTypes}
 use Rattle.att.specs.Items.{itemsOf}
-use Rattle.att.specs.Wire.{Meaning, Read, Means, NotRead, read, Coded, Sent, NotSent, send}
+use Rattle.att.specs.Wire.{Meaning, meaning, Read, Means, NotRead, read, Coded, Sent, NotSent, send}
 use Rattle.attributes.specs.Ledger.{Item}
 use Rattle.attributes.specs.Records.{skeleton}
 use Rattle.attributes.specs.Stores.{storeRefusal}
 use Rattle.attributes.specs.declared.Outcome.{Outcome}
 use Rattle.attributes.specs.declared.Outcome.the-variants as outcome
 use Rattle.attributes.specs.declared.Record.{Record}
-use Rattle.answers.specs.View.{View, readingOf}
-use Rattle.answers.specs.Replies.{Says, Packet, Silence, Refuses, Effect, Nothing, Stores, Agrees, keep, outlines, groupEnd, endOf, holds, nth, reply}
+use Rattle.answers.specs.View.{View, may, readingOf}
+use Rattle.answers.specs.Replies.{Says, Packet, Silence, Refuses, Effect, Nothing, Stores, Agrees, errorPacket, keep, outlines, groupEnd, endOf, holds, nth, reply}
 use Rattle.answers.specs.Serve.{State, ledger, views, Heard, Bytes, Silent, Refused, serve, Step, Send, Store, Encrypt, after}
 use Rattle.answers.specs.declared.Link.{Link}
 
@@ -95,6 +95,20 @@ readHeard (Refused why) = NotRead
 
 unfoldable pub told : State → List ℕ → ℕ → List Told
 told s p room = toldBy (read p) (readHeard (serve s p room .heard))
+
+-- The answers to 0A and 0C for the handle `h`, made of the attribute that has it and of nothing else.
+abbrev pub unreadable : Item → ℕ
+unreadable i = pick (i .readable) 0x0F 0x02
+
+abbrev pub readAnswer : Link → ℕ → Item → Meaning
+readAnswer l h i =
+    pick (may (i .readable) (i .readEncrypted) (l .encrypted)) (meaning 0x0B [] (take (l .mtu - 1) (i .value))) (errorPacket 0x0A h (unreadable i))
+
+abbrev pub blobAnswer : Link → ℕ → ℕ → Item → Meaning
+blobAnswer l h offset i =
+    pick (may (i .readable) (i .readEncrypted) (l .encrypted))
+    (pick (leb offset (length (i .value))) (meaning 0x0D [] (take (l .mtu - 1) (drop offset (i .value)))) (errorPacket 0x0C h 0x07))
+    (errorPacket 0x0C h (unreadable i))
 
 -- The items that a client finds in a list, 05, 07, 09 or 11; and those that are due to its request, of all matching attributes in the
 -- order of their handles. A list may end early: it is then the start of what is due.
