@@ -11,3 +11,5 @@ pub mod Searches
 pub mod SentBack
 pub mod Told
 pub mod OneHandle
+pub mod Links
+pub mod Pharmacy

@@ -45,11 +45,13 @@ left = tillWith (0x31 ∷ 0x32 ∷ []) (0x00 ∷ 0x00 ∷ [])
 abbrev right : State
 right = tillWith (0x39 ∷ 0x39 ∷ 0x37 ∷ []) (0xAA ∷ [])
 
--- 04; 06 with the left code; 08; 0A; own stores of two codes; 0C behind the one and not behind the other; 10; an own store of the
+-- 02 with an MTU below 23, and again; 04; 06 with the left code; 08; 0A; own stores of two codes; 0C behind the one and not behind the other; 10; an own store of the
 -- battery level; its 0A; 12 with five bytes and with four; own stores of which the left one is refused; 06 again.
 abbrev sequence : List ℕ → List ℕ → List Step
 sequence code last =
-    Send (0x04 ∷ 0x01 ∷ 0x00 ∷ 0xFF ∷ 0xFF ∷ []) 64
+    Send (0x02 ∷ 0x05 ∷ 0x00 ∷ []) 64
+    ∷ Send (0x02 ∷ 0x64 ∷ 0x00 ∷ []) 64
+    ∷ Send (0x04 ∷ 0x01 ∷ 0x00 ∷ 0xFF ∷ 0xFF ∷ []) 64
     ∷ Send (0x06 ∷ 0x01 ∷ 0x00 ∷ 0xFF ∷ 0xFF ∷ 0xF1 ∷ 0xFF ∷ 0x31 ∷ 0x32 ∷ []) 64
     ∷ Send (0x08 ∷ 0x01 ∷ 0x00 ∷ 0xFF ∷ 0xFF ∷ 0xF1 ∷ 0xFF ∷ []) 64
     ∷ Send (0x0A ∷ 0x04 ∷ 0x00 ∷ []) 64
@@ -66,7 +68,9 @@ sequence code last =
 
 abbrev heard : List Heard
 heard =
-    Bytes (0x05 ∷ 0x01 ∷ 0x01 ∷ 0x00 ∷ 0x00 ∷ 0x28 ∷ 0x02 ∷ 0x00 ∷ 0x03 ∷ 0x28 ∷ 0x03 ∷ 0x00 ∷ 0x19 ∷ 0x2A ∷ 0x04 ∷ 0x00 ∷ 0xF1 ∷ 0xFF ∷ [])
+    Bytes (0x03 ∷ 0xF7 ∷ 0x00 ∷ [])
+    ∷ Bytes (0x01 ∷ 0x02 ∷ 0x00 ∷ 0x00 ∷ 0x06 ∷ [])
+    ∷ Bytes (0x05 ∷ 0x01 ∷ 0x01 ∷ 0x00 ∷ 0x00 ∷ 0x28 ∷ 0x02 ∷ 0x00 ∷ 0x03 ∷ 0x28 ∷ 0x03 ∷ 0x00 ∷ 0x19 ∷ 0x2A ∷ 0x04 ∷ 0x00 ∷ 0xF1 ∷ 0xFF ∷ [])
     ∷ Bytes (0x01 ∷ 0x06 ∷ 0x01 ∷ 0x00 ∷ 0x0A ∷ [])
     ∷ Bytes (0x01 ∷ 0x08 ∷ 0x04 ∷ 0x00 ∷ 0x02 ∷ [])
     ∷ Bytes (0x01 ∷ 0x0A ∷ 0x04 ∷ 0x00 ∷ 0x02 ∷ [])
@@ -90,13 +94,13 @@ alike-tills = alike additions left right refl (record { soundLeft = refl; soundR
 
 pub twin-steps : Twins false additions leftSteps rightSteps
 twin-steps =
-    packet _ _ (packet _ _ (packet _ _ (packet _ _
+    packet _ _ (packet _ _ (packet _ _ (packet _ _ (packet _ _ (packet _ _
     (unread 4 _ _ refl
     (packet _ _ (packet _ _
     (equal 3 _
     (packet _ _ (packet _ _ (packet _ _
     (unread 4 _ _ refl
-    (packet _ _ none))))))))))))
+    (packet _ _ none))))))))))))))
 
 pub both-hear : ((hears left leftSteps ≡ heard) × (hears right rightSteps ≡ heard))
     × ((valueAt 4 (ledger left) ≡ 0x31 ∷ 0x32 ∷ []) × (valueAt 4 (ledger right) ≡ 0x39 ∷ 0x39 ∷ 0x37 ∷ []))
