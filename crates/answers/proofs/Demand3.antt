@@ -179,7 +179,7 @@ demand3 encrypted adds s t c k a none = (refl, a, k)
 demand3 encrypted adds s t c k a (packet p room x) =
     let e = Send p room in
     let r = demand3 encrypted adds (after s e) (after t e) (sent-encrypted s p room (a .soundLeft) ∙ c)
-        (after-skeleton s e (a .soundLeft) ∙ k) (same-sent s t p room a) x in
+    (after-skeleton s e (a .soundLeft) ∙ k) (same-sent s t p room a) x in
     (ap₂ (λ (l m : List Heard). l ++ m) (same-heard s t p room a) (r .0), r .1, r .2)
 demand3 encrypted adds s t c k a (equal h v x) =
     let e = Store h v in

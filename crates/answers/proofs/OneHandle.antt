@@ -117,8 +117,8 @@ module _ (s : State) (room : ℕ) (k : sound s ≡ true) (link : linkOk (s .link
       let m = atHandle h (readAnswer l h) (errorPacket 0x0A h 0x01) (ledger s) in
       let row : reply (views s) l (0x0A ∷ a ∷ b ∷ []) room ≡ read (views s) l h = rw (link, fits, le-leb 3 (l .mtu) (omega (arith, big))) in
       let one : read (views s) l h ≡ only (Packet m) =
-          at-ledger (l .encrypted) h (λ v. reading 0x0A h (λ b. only (Packet (wire.meaning 0x0B [] (take (l .mtu - 1) b)))) (v .reading))
-          (readAnswer l h) (errorPacket 0x0A h 0x01) (ledger s) (read-one l h) in
+      at-ledger (l .encrypted) h (λ v. reading 0x0A h (λ b. only (Packet (wire.meaning 0x0B [] (take (l .mtu - 1) b)))) (v .reading))
+      (readAnswer l h) (errorPacket 0x0A h 0x01) (ledger s) (read-one l h) in
       ap (λ (x : Served). x .heard) (serve-is s (0x0A ∷ a ∷ b ∷ []) room k)
       ∙ ap (λ (r : Reply). saidBy (r .says) 0x0A room (r .effect) s .heard) (row ∙ one)
       ∙ heard-whole m 0x0A room Nothing s (l .mtu)
@@ -140,8 +140,8 @@ module _ (s : State) (room : ℕ) (k : sound s ≡ true) (link : linkOk (s .link
       let m = atHandle h (blobAnswer l h o) (errorPacket 0x0C h 0x01) (ledger s) in
       let row : reply (views s) l (0x0C ∷ a ∷ b ∷ c ∷ d ∷ []) room ≡ blob (views s) l h o = rw (link, fits, le-leb 5 (l .mtu) (omega (arith, big))) in
       let one : blob (views s) l h o ≡ only (Packet m) =
-          at-ledger (l .encrypted) h (λ v. reading 0x0C h (blobOf l h o) (v .reading))
-          (blobAnswer l h o) (errorPacket 0x0C h 0x01) (ledger s) (blob-one l h o) in
+      at-ledger (l .encrypted) h (λ v. reading 0x0C h (blobOf l h o) (v .reading))
+      (blobAnswer l h o) (errorPacket 0x0C h 0x01) (ledger s) (blob-one l h o) in
       ap (λ (x : Served). x .heard) (serve-is s (0x0C ∷ a ∷ b ∷ c ∷ d ∷ []) room k)
       ∙ ap (λ (r : Reply). saidBy (r .says) 0x0C room (r .effect) s .heard) (row ∙ one)
       ∙ heard-whole m 0x0C room Nothing s (l .mtu)

@@ -60,20 +60,23 @@ module _ (fl ll : ℕ) (fixed live : List ℕ) where
   rise last at [] o = tt
   rise last at (r ∷ rs) o =
       let g = both (recordOk fl ll last at r) _ o in
-      let up = good fl ll last at r (g .0) .rises in
-      (up, each-so (λ (i : Item). r .handle < i .handle) (λ (i : Item). last < i .handle) (map (item fixed live) rs)
-      (λ i h. omega (arith, h, up)) (rise (r .handle) (slotsEnd at r) rs (g .1)))
+      let up = good fl ll last at r (g .0) .rises in (
+        up,
+        each-so (λ (i : Item). r .handle < i .handle) (λ (i : Item). last < i .handle) (map (item fixed live) rs)
+            (λ i h. omega (arith, h, up)) (rise (r .handle) (slotsEnd at r) rs (g .1)),
+      )
 
   alone-all : (last at : ℕ) (rs : List Record) → recordsOk fl ll last at rs ≡ true
       → Each (λ (i : Item). valueAt (i .handle) (map (item fixed live) rs) ≡ i .value) (map (item fixed live) rs)
   alone-all last at [] o = tt
   alone-all last at (r ∷ rs) o =
-      let g = both (recordOk fl ll last at r) _ o in
-      (rw (eq-eqb (r .handle) (r .handle) refl),
-      each-two (λ (i : Item). r .handle < i .handle) (λ (i : Item). valueAt (i .handle) (map (item fixed live) rs) ≡ i .value)
-      (λ (i : Item). valueAt (i .handle) (map (item fixed live) (r ∷ rs)) ≡ i .value) (map (item fixed live) rs)
-      (λ i h e. rw (ne-eqb (r .handle) (i .handle) (λ z. omega (arith, z, h))) e)
-      (rise (r .handle) (slotsEnd at r) rs (g .1)) (alone-all (r .handle) (slotsEnd at r) rs (g .1)))
+      let g = both (recordOk fl ll last at r) _ o in (
+        rw (eq-eqb (r .handle) (r .handle) refl),
+        each-two (λ (i : Item). r .handle < i .handle) (λ (i : Item). valueAt (i .handle) (map (item fixed live) rs) ≡ i .value)
+            (λ (i : Item). valueAt (i .handle) (map (item fixed live) (r ∷ rs)) ≡ i .value) (map (item fixed live) rs)
+            (λ i h e. rw (ne-eqb (r .handle) (i .handle) (λ z. omega (arith, z, h))) e)
+            (rise (r .handle) (slotsEnd at r) rs (g .1)) (alone-all (r .handle) (slotsEnd at r) rs (g .1)),
+      )
 
 form-told : (u : Uuid) (f : Form) → u .form ≡ f → typeOk f ≡ true → length (u .bytes) ≡ 16 → Told05 (2 + length (own u))
 form-told u Uuid16 e o l = let n : length (own u) ≡ 2 = own-length u l ∙ rw e in rw n (refl, omega arith)
@@ -85,13 +88,14 @@ known-all : (fl ll last at : ℕ) (fixed live : List ℕ) (all : List Item) (rs 
     → Each (λ (i : Item). valueAt (i .handle) all ≡ i .value) (map (item fixed live) rs) → Each (Known all) (map (item fixed live) rs)
 known-all fl ll last at fixed live all [] o t a = tt
 known-all fl ll last at fixed live all (r ∷ rs) o t a =
-    let g = both (recordOk fl ll last at r) _ o in
-    (record {
-      alone = a .0;
-      small = t .0 .0;
-      form = form-told (r .kind) (r .kind .form) refl (good fl ll last at r (g .0) .form) (t .0 .1);
-    },
-    known-all fl ll (r .handle) (slotsEnd at r) fixed live all rs (g .1) (t .1) (a .1))
+    let g = both (recordOk fl ll last at r) _ o in (
+      record {
+        alone = a .0;
+        small = t .0 .0;
+        form = form-told (r .kind) (r .kind .form) refl (good fl ll last at r (g .0) .form) (t .0 .1);
+      },
+      known-all fl ll (r .handle) (slotsEnd at r) fixed live all rs (g .1) (t .1) (a .1),
+    )
 
 known : (s : State) → sound s ≡ true → Typed s → Each (Known (ledger s)) (ledger s)
 unfolding sound ledger
@@ -262,10 +266,15 @@ module _ (s : State) (op room : ℕ) (ns t : List ℕ) (kn : Each (Known (ledger
   fair-0C =
       let l = s .link in
       by-blob (Fair s op room ns t) Shows (views s) l (nth ns 0) (nth ns 1) shows-all (λ code. fair-error s op room ns t 0x0C (nth ns 0) code)
-      (λ v b shows at-it held-there. fair-value s op room ns t 0x0D (take (l .mtu - 1) (drop (nth ns 1) b)) refl
-      (refl, (cut (l .mtu - 1) (drop (nth ns 1) b)
-      ∙ ap (λ (x : List ℕ). take (length (take (l .mtu - 1) (drop (nth ns 1) b))) (drop (nth ns 1) x))
-      (sym (ap (λ (h : ℕ). valueAt h (ledger s)) (sym at-it) ∙ shows b held-there)), tt)))
+      (λ v b shows at-it held-there. fair-value s op room ns t 0x0D (take (l .mtu - 1) (drop (nth ns 1) b)) refl (
+        refl,
+        (
+          cut (l .mtu - 1) (drop (nth ns 1) b)
+              ∙ ap (λ (x : List ℕ). take (length (take (l .mtu - 1) (drop (nth ns 1) b))) (drop (nth ns 1) x))
+              (sym (ap (λ (h : ℕ). valueAt h (ledger s)) (sym at-it) ∙ shows b held-there)),
+          tt,
+        ),
+      ))
 
   -- the lists: the start of what is due, and what is true of each item
   module _ (f : View → Part) (match : Item → Bool) (g : Item → List ℕ) (ok : (i : Item) → Given (match i) (g i) (f (view (s .link .encrypted) i)))
@@ -303,19 +312,20 @@ module _ (s : State) (op room : ℕ) (ns t : List ℕ) (kn : Each (Known (ledger
       by-searched (Fair s op room ns t) 0x08 vs (l .mtu - 2) from to values (typed l t) (λ h code. fair-error s op room ns t 0x08 h code)
       (λ n is found.
       let ok : (i : Item) → Given (equalTypes (i .kind) t) (valueItem l i) (typed l t (view (l .encrypted) i)) = λ i.
-          given-if (equalTypes (i .kind) t) (valueItem l i) (valued (readingOf (l .encrypted) i) (bytesOf 2 (i .handle)) (l .mtu - 4))
-          (λ q. given-valued (l .encrypted) i (bytesOf 2 (i .handle)) (l .mtu - 4)) in
+      given-if (equalTypes (i .kind) t) (valueItem l i) (valued (readingOf (l .encrypted) i) (bytesOf 2 (i .handle)) (l .mtu - 4))
+      (λ q. given-valued (l .encrypted) i (bytesOf 2 (i .handle)) (l .mtu - 4)) in
       let size = sizes Told09 (typed l t) (within from to vs) (l .mtu - 2) n is
-          (each (λ (v : View). Sized Told09 (typed l t v)) (within from to vs)
-          (λ v. sized-if Told09 (equalTypes (v .kind) t) (valued (v .reading) (bytesOf 2 (v .handle)) (l .mtu - 4))
-          (sized-valued (v .reading) (bytesOf 2 (v .handle)) (l .mtu - 4) (omega arith) (omega arith)))) found in
+      (each (λ (v : View). Sized Told09 (typed l t v)) (within from to vs)
+      (λ v. sized-if Told09 (equalTypes (v .kind) t) (valued (v .reading) (bytesOf 2 (v .handle)) (l .mtu - 4))
+      (sized-valued (v .reading) (bytesOf 2 (v .handle)) (l .mtu - 4) (omega arith) (omega arith)))) found in
       fair-list s op room ns t 0x09 (1 ∷ []) (n ∷ []) wire.first 2 is refl (omega (arith, size .0 .1), tt) (size .0 .0) (size .1)
-      (λ back. rw (back, due-row 0x08 _ e refl)
-      (starts (typed l t) (ofKind t) (valueItem l) ok from to (l .mtu - 2) n is found,
-      each-map (Truth s op room ns t) (λ (b : List ℕ). tells (numberAt 2 0 b) 0 (drop 2 b)) is
-      (each-item (typed l t) (ofKind t) (valueItem l) ok from to (l .mtu - 2) n is found
-      (λ (b : List ℕ). Truth s op room ns t (tells (numberAt 2 0 b) 0 (drop 2 b)))
-      (λ i a m. cut-truth (numberOf (bytesOf 2 (i .handle))) (i .handle) (l .mtu - 4) (i .value) (number-bytes 2 (i .handle) (a .small)) (a .alone))))))
+      (λ back. rw (back, due-row 0x08 _ e refl) (
+        starts (typed l t) (ofKind t) (valueItem l) ok from to (l .mtu - 2) n is found,
+        each-map (Truth s op room ns t) (λ (b : List ℕ). tells (numberAt 2 0 b) 0 (drop 2 b)) is
+            (each-item (typed l t) (ofKind t) (valueItem l) ok from to (l .mtu - 2) n is found
+            (λ (b : List ℕ). Truth s op room ns t (tells (numberAt 2 0 b) 0 (drop 2 b)))
+            (λ i a m. cut-truth (numberOf (bytesOf 2 (i .handle))) (i .handle) (l .mtu - 4) (i .value) (number-bytes 2 (i .handle) (a .small)) (a .alone))),
+      )))
 
   fair-10 : op ≡ 0x10 → Fair s op room ns t (readByGroupType (views s) (s .link) (nth ns 0) (nth ns 1) t)
   unfolding readByGroupType groupValues grouped FairRead wire.shapeOf wire.rows
@@ -330,21 +340,22 @@ module _ (s : State) (op room : ℕ) (ns t : List ℕ) (kn : Each (Known (ledger
       (by-searched (Fair s op room ns t) 0x10 vs (l .mtu - 2) from to groupValues (grouped vs l t) (λ h code. fair-error s op room ns t 0x10 h code)
       (λ n is found.
       let ok : (i : Item) → Given (equalTypes (i .kind) t) (groupItem vs l i) (grouped vs l t (view (l .encrypted) i)) = λ i.
-          let front = bytesOf 2 (i .handle) ++ bytesOf 2 (groupEnd (outlines vs) (i .handle)) in
-          given-if (equalTypes (i .kind) t) (groupItem vs l i) (valued (readingOf (l .encrypted) i) front (l .mtu - 6))
-          (λ q. given-valued (l .encrypted) i front (l .mtu - 6)) in
+      let front = bytesOf 2 (i .handle) ++ bytesOf 2 (groupEnd (outlines vs) (i .handle)) in
+      given-if (equalTypes (i .kind) t) (groupItem vs l i) (valued (readingOf (l .encrypted) i) front (l .mtu - 6))
+      (λ q. given-valued (l .encrypted) i front (l .mtu - 6)) in
       let size = sizes Told09 (grouped vs l t) (within from to vs) (l .mtu - 2) n is
-          (each (λ (v : View). Sized Told09 (grouped vs l t v)) (within from to vs)
-          (λ v. let front = bytesOf 2 (v .handle) ++ bytesOf 2 (groupEnd (outlines vs) (v .handle)) in
-          sized-if Told09 (equalTypes (v .kind) t) (valued (v .reading) front (l .mtu - 6))
-          (sized-valued (v .reading) front (l .mtu - 6) (omega arith) (omega arith)))) found in
+      (each (λ (v : View). Sized Told09 (grouped vs l t v)) (within from to vs)
+      (λ v. let front = bytesOf 2 (v .handle) ++ bytesOf 2 (groupEnd (outlines vs) (v .handle)) in
+      sized-if Told09 (equalTypes (v .kind) t) (valued (v .reading) front (l .mtu - 6))
+      (sized-valued (v .reading) front (l .mtu - 6) (omega arith) (omega arith)))) found in
       fair-list s op room ns t 0x11 (1 ∷ []) (n ∷ []) wire.first 4 is refl (omega (arith, size .0 .1), tt) (size .0 .0) (size .1)
-      (λ back. rw (back, due-row 0x10 _ e refl)
-      (starts (grouped vs l t) (ofKind t) (groupItem vs l) ok from to (l .mtu - 2) n is found,
-      each-map (Truth s op room ns t) (λ (b : List ℕ). tells (numberAt 2 0 b) 0 (drop 4 b)) is
-      (each-item (grouped vs l t) (ofKind t) (groupItem vs l) ok from to (l .mtu - 2) n is found
-      (λ (b : List ℕ). Truth s op room ns t (tells (numberAt 2 0 b) 0 (drop 4 b)))
-      (λ i a m. cut-truth (numberOf (bytesOf 2 (i .handle))) (i .handle) (l .mtu - 6) (i .value) (number-bytes 2 (i .handle) (a .small)) (a .alone)))))))
+      (λ back. rw (back, due-row 0x10 _ e refl) (
+        starts (grouped vs l t) (ofKind t) (groupItem vs l) ok from to (l .mtu - 2) n is found,
+        each-map (Truth s op room ns t) (λ (b : List ℕ). tells (numberAt 2 0 b) 0 (drop 4 b)) is
+            (each-item (grouped vs l t) (ofKind t) (groupItem vs l) ok from to (l .mtu - 2) n is found
+            (λ (b : List ℕ). Truth s op room ns t (tells (numberAt 2 0 b) 0 (drop 4 b)))
+            (λ i a m. cut-truth (numberOf (bytesOf 2 (i .handle))) (i .handle) (l .mtu - 6) (i .value) (number-bytes 2 (i .handle) (a .small)) (a .alone))),
+      ))))
 
   fair-06 : op ≡ 0x06 → Fair s op room ns t (findByTypeValue (views s) (s .link) (nth ns 0) (nth ns 1) (nth ns 2) t)
   unfolding findByTypeValue pairs pair FairRead wire.shapeOf wire.rows
@@ -357,22 +368,23 @@ module _ (s : State) (op room : ℕ) (ns t : List ℕ) (kn : Each (Known (ledger
       by-searched (Fair s op room ns t) 0x06 vs (l .mtu - 1) from to pairs (pair vs kind t) (λ h code. fair-error s op room ns t 0x06 h code)
       (λ n is found.
       let ok : (i : Item) → Given (holding (l .encrypted) kind t i) (pairItem vs kind i) (pair vs kind t (view (l .encrypted) i)) = λ i.
-          given-if (holding (l .encrypted) kind t i) (pairItem vs kind i) (Take (pairItem vs kind i)) (λ q. refl) in
+      given-if (holding (l .encrypted) kind t i) (pairItem vs kind i) (Take (pairItem vs kind i)) (λ q. refl) in
       let size = sizes (λ k. k ≡ 4) (pair vs kind t) (within from to vs) (l .mtu - 1) n is
-          (each (λ (v : View). Sized (λ k. k ≡ 4) (pair vs kind t v)) (within from to vs)
-          (λ v. sized-if (λ k. k ≡ 4) (equalTypes (v .kind) kind && holds (v .reading) t)
-          (Take (bytesOf 2 (v .handle) ++ bytesOf 2 (endOf vs kind (v .handle)))) refl)) found in
+      (each (λ (v : View). Sized (λ k. k ≡ 4) (pair vs kind t v)) (within from to vs)
+      (λ v. sized-if (λ k. k ≡ 4) (equalTypes (v .kind) kind && holds (v .reading) t)
+      (Take (bytesOf 2 (v .handle) ++ bytesOf 2 (endOf vs kind (v .handle)))) refl)) found in
       let all : AllOf 4 is = rw (size .0) at (size .1) in
       fair-list s op room ns t 0x07 [] [] (λ ks. 4) 2 is refl tt (omega arith) all
-      (λ back. rw (back, due-row 0x06 _ e refl)
-      (starts (pair vs kind t) (holding (l .encrypted) kind t) (pairItem vs kind) ok from to (l .mtu - 1) n is found,
-      each-map (Truth s op room ns t) (λ (b : List ℕ). tells (numberAt 2 0 b) 0 t) is
-      (each-item (pair vs kind t) (holding (l .encrypted) kind t) (pairItem vs kind) ok from to (l .mtu - 1) n is found
-      (λ (b : List ℕ). Truth s op room ns t (tells (numberAt 2 0 b) 0 t))
-      (λ i a m.
-      let h : numberOf (bytesOf 2 (i .handle)) ≡ i .handle = number-bytes 2 (i .handle) (a .small) in
-      let x : i .value ≡ t = holds-value (i .readable) (not (i .readEncrypted) || l .encrypted) (i .value) t (both (equalTypes (i .kind) kind) _ m .1) in
-      sym (take-length t) ∙ ap (take (length t)) (sym (ap (λ (k : ℕ). valueAt k (ledger s)) h ∙ a .alone ∙ x)))))))
+      (λ back. rw (back, due-row 0x06 _ e refl) (
+        starts (pair vs kind t) (holding (l .encrypted) kind t) (pairItem vs kind) ok from to (l .mtu - 1) n is found,
+        each-map (Truth s op room ns t) (λ (b : List ℕ). tells (numberAt 2 0 b) 0 t) is
+            (each-item (pair vs kind t) (holding (l .encrypted) kind t) (pairItem vs kind) ok from to (l .mtu - 1) n is found
+            (λ (b : List ℕ). Truth s op room ns t (tells (numberAt 2 0 b) 0 t))
+            (λ i a m.
+            let h : numberOf (bytesOf 2 (i .handle)) ≡ i .handle = number-bytes 2 (i .handle) (a .small) in
+            let x : i .value ≡ t = holds-value (i .readable) (not (i .readEncrypted) || l .encrypted) (i .value) t (both (equalTypes (i .kind) kind) _ m .1) in
+            sym (take-length t) ∙ ap (take (length t)) (sym (ap (λ (k : ℕ). valueAt k (ledger s)) h ∙ a .alone ∙ x)))),
+      )))
 
   fair-04 : op ≡ 0x04 → Fair s op room ns t (findInformation (views s) (s .link) (nth ns 0) (nth ns 1))
   unfolding findInformation infos info FairRead wire.shapeOf wire.rows
@@ -385,10 +397,10 @@ module _ (s : State) (op room : ℕ) (ns t : List ℕ) (kn : Each (Known (ledger
       by-searched (Fair s op room ns t) 0x04 vs (l .mtu - 2) from to infos info (λ h code. fair-error s op room ns t 0x04 h code)
       (λ n is found.
       let long : Each (λ (v : View). Sized Told05 (info v)) (map (view (l .encrypted)) range) =
-          each-map (λ (v : View). Sized Told05 (info v)) (view (l .encrypted)) range
-          (each-so (Known (ledger s)) (λ (i : Item). Sized Told05 (info (view (l .encrypted) i))) range
-          (λ i a. let w : length (bytesOf 2 (i .handle) ++ i .kind) ≡ 2 + length (i .kind) = omega arith in rw w (a .form))
-          (each-keep (Known (ledger s)) _ (ledger s) kn)) in
+      each-map (λ (v : View). Sized Told05 (info v)) (view (l .encrypted)) range
+      (each-so (Known (ledger s)) (λ (i : Item). Sized Told05 (info (view (l .encrypted) i))) range
+      (λ i a. let w : length (bytesOf 2 (i .handle) ++ i .kind) ≡ 2 + length (i .kind) = omega arith in rw w (a .form))
+      (each-keep (Known (ledger s)) _ (ledger s) kn)) in
       let size = sizes Told05 info (within from to vs) (l .mtu - 2) n is (rw (within-view (l .encrypted) from to (ledger s)) long) found in
       let width : wire.byFormat (format n ∷ []) ≡ n = size .0 .0 in
       fair-list s op room ns t 0x05 (1 ∷ []) (format n ∷ []) wire.byFormat 2 is refl (format-small (eqb n 4), tt)

@@ -227,8 +227,8 @@ acknowledged s p room k e =
     let h = numberAt 2 0 p in
     let d = drop 2 p in
     let a : asked s (Send (0x12 ∷ p) room) ≡ Stores h d =
-        by-reply (Acks s room h d) (views s) (s .link) 0x12 p room (ack-leaves s room h d (views s) (s .link) (h ∷ []) refl)
-        (ap (λ (x : Served). x .heard) (sym (serve-is s (0x12 ∷ p) room k)) ∙ e) in
+    by-reply (Acks s room h d) (views s) (s .link) 0x12 p room (ack-leaves s room h d (views s) (s .link) (h ∷ []) refl)
+    (ap (λ (x : Served). x .heard) (sym (serve-is s (0x12 ∷ p) room k)) ∙ e) in
     let taken : storeRefusal h (length d) (ledger s) ≡ Accepted = rw a at (packets-are-taken s k (0x12 ∷ p) room) in
     (a, step-value s (Send (0x12 ∷ p) room) h k ∙ rw (a, taken, eq-eqb h h refl))
 
