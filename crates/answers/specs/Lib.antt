@@ -1,6 +1,6 @@
-pub mod View
-pub mod Replies
-pub mod Serve
+pub mod Auditor
 pub mod Cases
 pub mod Demand3
-pub mod Auditor
+pub mod Replies
+pub mod Serve
+pub mod View
