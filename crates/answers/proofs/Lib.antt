@@ -6,6 +6,7 @@ pub mod Lists
 pub mod OneHandle
 pub mod Pharmacy
 pub mod Plain
+pub mod Premises
 pub mod Searches
 pub mod SentBack
 pub mod Steps

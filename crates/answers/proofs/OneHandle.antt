@@ -13,13 +13,14 @@ use Rattle.codec.specs.Cases.{pick}
 use Rattle.codec.specs.CasesLaws.{both}
 use Rattle.primitives.specs.Numbers.{numberOf}
 use Rattle.att.specs.Wire as wire
-use Rattle.attributes.specs.Ledger.{Item, atHandle}
+use Rattle.attributes.specs.Ledger.{Item, atHandle, valueAt}
 use Rattle.answers.specs.View.{View, view, Value, NoRead, may, readingOf}
 use Rattle.answers.specs.Replies.{Packet, Effect, Nothing, Reply, only, errorPacket, error, at, reading, read, blob, served, rowReply, request, silent, replyTo, linkOk, reply}
-use Rattle.answers.specs.Serve.{State, sound, ledger, views, Bytes, Served, coded, unlikely, encodedBy, saidBy, serve}
-use Rattle.answers.specs.Auditor.{readAnswer, blobAnswer, unreadable}
+use Rattle.answers.specs.Serve.{State, sound, ledger, views, Bytes, Served, coded, unlikely, encodedBy, saidBy, serve, Step, run}
+use Rattle.answers.specs.Auditor.{accepted, lastFor, readAnswer, blobAnswer, unreadable, mayReadAt}
 use Rattle.answers.specs.declared.Link.{Link}
-use Rattle.answers.proofs.Steps.{serve-is}
+use Rattle.answers.proofs.Held.{held}
+use Rattle.answers.proofs.Steps.{serve-is, run-sound}
 
 -- the attribute at a handle, by the views and by the ledger
 at-ledger : (e : Bool) (h : ℕ) (f : View → Reply) (g : Item → wire.Meaning) (none : wire.Meaning) (is : List Item)
@@ -151,3 +152,28 @@ module _ (s : State) (room : ℕ) (k : sound s ≡ true) (link : linkOk (s .link
       (fits-error l big 0x0C h (unreadable i)))
       (fits-error l big 0x0C h 0x01))
       (leb-true (l .mtu) room fits)
+
+-- The lay reader's form: after any sequence, a client that reads an attribute that it may read hears the value that was last written
+-- to that very handle, cut to the MTU.
+read-is : (l : Link) (h : ℕ) (none : wire.Meaning) (is : List Item) → mayReadAt (l .encrypted) h is ≡ true
+    → atHandle h (readAnswer l h) none is ≡ wire.meaning 0x0B [] (take (l .mtu - 1) (valueAt h is))
+read-is l h none [] e = let z : _≡_ {A = ℕ} 0 1 = cc in absurd (omega arith)
+read-is l h none (i ∷ is) e = by (eqb (i .handle) h) e (read-is l h none is)
+  where
+    by : (b : Bool) → pick b (may (i .readable) (i .readEncrypted) (l .encrypted)) (mayReadAt (l .encrypted) h is) ≡ true
+        → (mayReadAt (l .encrypted) h is ≡ true → atHandle h (readAnswer l h) none is ≡ wire.meaning 0x0B [] (take (l .mtu - 1) (valueAt h is)))
+        → pick b (readAnswer l h i) (atHandle h (readAnswer l h) none is) ≡ wire.meaning 0x0B [] (take (l .mtu - 1) (pick b (i .value) (valueAt h is)))
+    by true q f = rw q
+    by false q f = f q
+
+pub reads-what-was-written : (s : State) (es : List Step) (a b room : ℕ) → sound s ≡ true → linkOk (run s es .link) ≡ true
+    → leb (run s es .link .mtu) room ≡ true → mayReadAt (run s es .link .encrypted) (numberOf (a ∷ b ∷ [])) (ledger (run s es)) ≡ true
+    → serve (run s es) (0x0A ∷ a ∷ b ∷ []) room .heard
+    ≡ Bytes (0x0B ∷ take (run s es .link .mtu - 1) (lastFor (numberOf (a ∷ b ∷ [])) (valueAt (numberOf (a ∷ b ∷ [])) (ledger s)) (accepted s es)))
+unfolding wire.send wire.shapeOf wire.rows
+reads-what-was-written s es a b room k link fits readable =
+    let t = run s es in
+    let h = numberOf (a ∷ b ∷ []) in
+    read-tells t room (run-sound s es k) link fits a b
+    ∙ ap (λ (m : wire.Meaning). Bytes (coded (wire.send m))) (read-is (t .link) h (errorPacket 0x0A h 0x01) (ledger t) readable)
+    ∙ ap (λ (v : List ℕ). Bytes (0x0B ∷ take (t .link .mtu - 1) v)) (held s es h k)

@@ -1,6 +1,6 @@
 -- The auditor's sentence, "show that expiry cannot be taken for lot": what was written to an attribute, and what a client is told of it.
 use Prim.Native.Nat.{ℕ, _-_, _<_}
-use mathlib.Core.Bool.{Bool, _&&_}
+use mathlib.Core.Bool.{Bool, false, _&&_}
 use mathlib.Core.Path.{_≡_}
 use mathlib.Core.List.{List, [], _∷_, _++_, map}
 use lib.ListN.{length, take, drop}
@@ -10,7 +10,7 @@ use Rattle.primitives.specs.Numbers.{bytesOf, numberAt}
 use Rattle.uuid.specs.Uuids.{equalTypes}
 use Rattle.att.specs.Items.{itemsOf}
 use Rattle.att.specs.Wire.{Meaning, meaning, Read, Means, NotRead, read, Coded, Sent, NotSent, send}
-use Rattle.attributes.specs.Ledger.{Item}
+use Rattle.attributes.specs.Ledger.{Item, atHandle}
 use Rattle.attributes.specs.Records.{skeleton}
 use Rattle.attributes.specs.Stores.{storeRefusal}
 use Rattle.attributes.specs.declared.Outcome.{Outcome}
@@ -109,6 +109,10 @@ blobAnswer l h offset i =
     pick (may (i .readable) (i .readEncrypted) (l .encrypted))
     (pick (leb offset (length (i .value))) (meaning 0x0D [] (take (l .mtu - 1) (drop offset (i .value)))) (errorPacket 0x0C h 0x07))
     (errorPacket 0x0C h (unreadable i))
+
+-- the link may read the attribute that has the handle `h`
+abbrev pub mayReadAt : Bool → ℕ → List Item → Bool
+mayReadAt encrypted h is = atHandle h (λ i. may (i .readable) (i .readEncrypted) encrypted) false is
 
 -- The items that a client finds in a list, 05, 07, 09 or 11; and those that are due to its request, of all matching attributes in the
 -- order of their handles. A list may end early: it is then the start of what is due.
