@@ -14,8 +14,7 @@ use borrow.Author.Tests.{eqb-true, eq-eqb, ne-eqb}
 use Rattle.codec.specs.Cases.{pick}
 use Rattle.codec.specs.CasesLaws.{both}
 use Rattle.attributes.proofs.Built.{built}
-use Rattle.attributes.specs.Additions.{emptyTable, layout}
-use Rattle.attributes.specs.History.{Act, afterActs, acceptedActs}
+use Rattle.attributes.specs.Additions.{layout}
 use Rattle.attributes.specs.Ledger.{holding, item, valueAt}
 use Rattle.attributes.specs.Records.{entries, bare, skeleton}
 use Rattle.attributes.specs.Soundness.{recordOk, slotsEnd, recordsOk}
@@ -25,7 +24,7 @@ use Rattle.attributes.specs.declared.Addition.{Addition}
 use Rattle.attributes.specs.declared.Record.{Record}
 use Rattle.answers.specs.View.{View, view, Reading, Value, NoRead}
 use Rattle.answers.specs.Serve.{State, sound, ledger, views, Step, run, hears}
-use Rattle.answers.specs.Demand3.{mayRead, BuiltBy, Alike, Twins}
+use Rattle.answers.specs.Demand3.{mayRead, BuiltBy, History, Alike, Twins}
 use Rattle.answers.specs.declared.Link.{Link}
 use Rattle.answers.proofs.Demand3.{Agree, mayOf, mayReadIn, may-layout, demand3}
 
@@ -195,6 +194,6 @@ nothing-leaks adds s t es fs a x =
     (d .0, alike adds (run s es) (run t fs) (d .2) (d .1))
 
 -- Its words "built by": a table that came of a new one by additions and own stores was built by the additions that were accepted.
-pub built-by-accepted : (s : State) (live : List ℕ) (fl ll : ℕ) (acts : List Act) → s .table ≡ afterActs (s .fixed) (emptyTable fl ll) live acts
-    → BuiltBy (acceptedActs (s .fixed) (emptyTable fl ll) live acts) s
-built-by-accepted s live fl ll acts e = ap skeleton e ∙ built (s .fixed) live fl ll acts
+pub built-by-accepted : (adds : List Addition) (s : State) → History adds s → BuiltBy adds s
+built-by-accepted adds s h =
+    ap skeleton (h .table) ∙ built (s .fixed) (h .live) (length (s .fixed)) (length (h .live)) (h .acts) ∙ ap (layout 0) (h .additions)

@@ -59,27 +59,43 @@ needed =
     -- readable values are equal: 41 and 42
     ((((plain 0x41, reading ∷ [])), (plain 0x42, reading ∷ [])), (Bytes (0x0B ∷ 0x41 ∷ []) ∷ [], Bytes (0x0B ∷ 0x42 ∷ []) ∷ []))
     -- own stores to what the link may read are equal
-    ∷ (((plain 0x41, Store 1 (0x43 ∷ []) ∷ reading ∷ []), (plain 0x41, Store 1 (0x44 ∷ []) ∷ reading ∷ [])),
-    (Bytes (0x0B ∷ 0x43 ∷ []) ∷ [], Bytes (0x0B ∷ 0x44 ∷ []) ∷ []))
+    ∷ (
+      ((plain 0x41, Store 1 (0x43 ∷ []) ∷ reading ∷ []), (plain 0x41, Store 1 (0x44 ∷ []) ∷ reading ∷ [])),
+      (Bytes (0x0B ∷ 0x43 ∷ []) ∷ [], Bytes (0x0B ∷ 0x44 ∷ []) ∷ []),
+    )
     -- link records are equal: encryption, the mark of the exchange, the MTU
-    ∷ (((holder (one true) 1 (link 23 false true) 0x41, reading ∷ []), (secret 0x41, reading ∷ [])),
-    (Bytes (0x0B ∷ 0x41 ∷ []) ∷ [], Bytes (0x01 ∷ 0x0A ∷ 0x01 ∷ 0x00 ∷ 0x0F ∷ []) ∷ []))
-    ∷ (((holder (one false) 1 (link 23 true false) 0x41, Send (0x02 ∷ 0x17 ∷ 0x00 ∷ []) 23 ∷ []), (plain 0x41, Send (0x02 ∷ 0x17 ∷ 0x00 ∷ []) 23 ∷ [])),
-    (Bytes (0x01 ∷ 0x02 ∷ 0x00 ∷ 0x00 ∷ 0x06 ∷ []) ∷ [], Bytes (0x03 ∷ 0xF7 ∷ 0x00 ∷ []) ∷ []))
-    ∷ (((holder (one false) 1 (link 24 false false) 0x41, reading ∷ []), (plain 0x41, reading ∷ [])),
-    (Refused InsufficientSpace ∷ [], Bytes (0x0B ∷ 0x41 ∷ []) ∷ []))
+    ∷ (
+      ((holder (one true) 1 (link 23 false true) 0x41, reading ∷ []), (secret 0x41, reading ∷ [])),
+      (Bytes (0x0B ∷ 0x41 ∷ []) ∷ [], Bytes (0x01 ∷ 0x0A ∷ 0x01 ∷ 0x00 ∷ 0x0F ∷ []) ∷ []),
+    )
+    ∷ (
+      ((holder (one false) 1 (link 23 true false) 0x41, Send (0x02 ∷ 0x17 ∷ 0x00 ∷ []) 23 ∷ []), (plain 0x41, Send (0x02 ∷ 0x17 ∷ 0x00 ∷ []) 23 ∷ [])),
+      (Bytes (0x01 ∷ 0x02 ∷ 0x00 ∷ 0x00 ∷ 0x06 ∷ []) ∷ [], Bytes (0x03 ∷ 0xF7 ∷ 0x00 ∷ []) ∷ []),
+    )
+    ∷ (
+      ((holder (one false) 1 (link 24 false false) 0x41, reading ∷ []), (plain 0x41, reading ∷ [])),
+      (Refused InsufficientSpace ∷ [], Bytes (0x0B ∷ 0x41 ∷ []) ∷ []),
+    )
     -- both tables are sound: the first one says that it was built for two live bytes
-    ∷ (((holder (one false) 2 (link 23 false false) 0x41, reading ∷ []), (plain 0x41, reading ∷ [])),
-    (Refused BadTable ∷ [], Bytes (0x0B ∷ 0x41 ∷ []) ∷ []))
+    ∷ (
+      ((holder (one false) 2 (link 23 false false) 0x41, reading ∷ []), (plain 0x41, reading ∷ [])),
+      (Refused BadTable ∷ [], Bytes (0x0B ∷ 0x41 ∷ []) ∷ []),
+    )
     -- the same additions: handle 2 in the first one; no attribute that both have differs
-    ∷ (((holder (attribute 2 0xFFF1 true false (Live 0 1 1)) 1 (link 23 false false) 0x41, reading ∷ []), (plain 0x41, reading ∷ [])),
-    (Bytes (0x01 ∷ 0x0A ∷ 0x01 ∷ 0x00 ∷ 0x01 ∷ []) ∷ [], Bytes (0x0B ∷ 0x41 ∷ []) ∷ []))
+    ∷ (
+      ((holder (attribute 2 0xFFF1 true false (Live 0 1 1)) 1 (link 23 false false) 0x41, reading ∷ []), (plain 0x41, reading ∷ [])),
+      (Bytes (0x01 ∷ 0x0A ∷ 0x01 ∷ 0x00 ∷ 0x01 ∷ []) ∷ [], Bytes (0x0B ∷ 0x41 ∷ []) ∷ []),
+    )
     -- outputs of equal length
-    ∷ (((plain 0x41, Send (0x0A ∷ 0x01 ∷ 0x00 ∷ []) 22 ∷ []), (plain 0x41, reading ∷ [])),
-    (Refused InsufficientSpace ∷ [], Bytes (0x0B ∷ 0x41 ∷ []) ∷ []))
+    ∷ (
+      ((plain 0x41, Send (0x0A ∷ 0x01 ∷ 0x00 ∷ []) 22 ∷ []), (plain 0x41, reading ∷ [])),
+      (Refused InsufficientSpace ∷ [], Bytes (0x0B ∷ 0x41 ∷ []) ∷ []),
+    )
     -- encryption does not change, though it be in both runs: what differed unread is read
-    ∷ (((secret 0x41, Encrypt true ∷ reading ∷ []), (secret 0x42, Encrypt true ∷ reading ∷ [])),
-    (Bytes (0x0B ∷ 0x41 ∷ []) ∷ [], Bytes (0x0B ∷ 0x42 ∷ []) ∷ []))
+    ∷ (
+      ((secret 0x41, Encrypt true ∷ reading ∷ []), (secret 0x42, Encrypt true ∷ reading ∷ [])),
+      (Bytes (0x0B ∷ 0x41 ∷ []) ∷ [], Bytes (0x0B ∷ 0x42 ∷ []) ∷ []),
+    )
     ∷ []
 
 pub premises-needed : map (λ (e : (Run × Run) × (List Heard × List Heard)). (hears (e .0 .0 .0) (e .0 .0 .1), hears (e .0 .1 .0) (e .0 .1 .1))) needed

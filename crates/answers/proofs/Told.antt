@@ -33,7 +33,7 @@ use Rattle.attributes.specs.declared.Record.{Record}
 use Rattle.answers.specs.View.{View, view, Reading, Value, NoRead, Writing, UpTo, NoWrite, readingOf}
 use Rattle.answers.specs.Replies.{Says, Packet, Silence, Refuses, Effect, Nothing, Stores, Agrees, Reply, Part, Skip, Take, Fail, Listed, doing, only, errorPacket, error, exchange, writing, at, write, search, keep, within, rangeOk, searched, groups, outlines, groupEnd, endOf, info, infos, findInformation, holds, pair, pairs, findByTypeValue, valued, typed, values, read, blob, readByType, grouped, groupValues, readByGroupType, nth, linkOk, replyTo, reply}
 use Rattle.answers.specs.Serve.{State, sound, ledger, views, changed, Heard, Bytes, Served, serving, unlikely, encodedBy, saidBy, serve, Step, run}
-use Rattle.answers.specs.Auditor.{accepted, lastFor, Told, tells, TrueOf, toldIn, toldBy, readHeard, told, itemsIn, Starts, between, infoItem, pairItem, valueItem, groupItem, holding, dues, due, Each, Typed}
+use Rattle.answers.specs.Auditor.{accepted, lastFor, Told, tells, TrueOf, toldIn, toldBy, readHeard, told, itemsIn, Starts, between, infoItem, pairItem, valueItem, groupItem, holdsValue, dues, due, Each, Typed}
 use Rattle.answers.specs.declared.Link.{Link}
 use Rattle.answers.proofs.Held.{held}
 use Rattle.answers.proofs.Lists.{each, each-so, each-two, each-map, each-kept, each-keep, each-start, cut}
@@ -367,8 +367,8 @@ module _ (s : State) (op room : ℕ) (ns t : List ℕ) (kn : Each (Known (ledger
       let kind = bytesOf 2 (nth ns 2) in
       by-searched (Fair s op room ns t) 0x06 vs (l .mtu - 1) from to pairs (pair vs kind t) (λ h code. fair-error s op room ns t 0x06 h code)
       (λ n is found.
-      let ok : (i : Item) → Given (holding (l .encrypted) kind t i) (pairItem vs kind i) (pair vs kind t (view (l .encrypted) i)) = λ i.
-      given-if (holding (l .encrypted) kind t i) (pairItem vs kind i) (Take (pairItem vs kind i)) (λ q. refl) in
+      let ok : (i : Item) → Given (holdsValue (l .encrypted) kind t i) (pairItem vs kind i) (pair vs kind t (view (l .encrypted) i)) = λ i.
+      given-if (holdsValue (l .encrypted) kind t i) (pairItem vs kind i) (Take (pairItem vs kind i)) (λ q. refl) in
       let size = sizes (λ k. k ≡ 4) (pair vs kind t) (within from to vs) (l .mtu - 1) n is
       (each (λ (v : View). Sized (λ k. k ≡ 4) (pair vs kind t v)) (within from to vs)
       (λ v. sized-if (λ k. k ≡ 4) (equalTypes (v .kind) kind && holds (v .reading) t)
@@ -376,9 +376,9 @@ module _ (s : State) (op room : ℕ) (ns t : List ℕ) (kn : Each (Known (ledger
       let all : AllOf 4 is = rw (size .0) at (size .1) in
       fair-list s op room ns t 0x07 [] [] (λ ks. 4) 2 is refl tt (omega arith) all
       (λ back. rw (back, due-row 0x06 _ e refl) (
-        starts (pair vs kind t) (holding (l .encrypted) kind t) (pairItem vs kind) ok from to (l .mtu - 1) n is found,
+        starts (pair vs kind t) (holdsValue (l .encrypted) kind t) (pairItem vs kind) ok from to (l .mtu - 1) n is found,
         each-map (Truth s op room ns t) (λ (b : List ℕ). tells (numberAt 2 0 b) 0 t) is
-            (each-item (pair vs kind t) (holding (l .encrypted) kind t) (pairItem vs kind) ok from to (l .mtu - 1) n is found
+            (each-item (pair vs kind t) (holdsValue (l .encrypted) kind t) (pairItem vs kind) ok from to (l .mtu - 1) n is found
             (λ (b : List ℕ). Truth s op room ns t (tells (numberAt 2 0 b) 0 t))
             (λ i a m.
             let h : numberOf (bytesOf 2 (i .handle)) ≡ i .handle = number-bytes 2 (i .handle) (a .small) in

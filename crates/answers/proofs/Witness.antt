@@ -6,6 +6,9 @@ use mathlib.Core.Path.{_≡_, refl}
 use mathlib.Core.List.{List, [], _∷_}
 use Rattle.uuid.specs.Uuids.{equalTypes, short}
 use Rattle.att.specs.Wire.{rows, shapeOf, decodes, strict, send}
+use Rattle.attributes.specs.Additions.{addRefusal, added}
+use Rattle.attributes.specs.History as act
+use Rattle.attributes.specs.History.{afterActs, acceptedActs}
 use Rattle.attributes.specs.Ledger.{valueAt}
 use Rattle.attributes.specs.Soundness.{soundTable}
 use Rattle.attributes.specs.Stores.{ownRefusal, stored, storedLive}
@@ -13,7 +16,7 @@ use Rattle.attributes.specs.declared.Addition.{Addition}
 use Rattle.attributes.specs.declared.Room as asked
 use Rattle.attributes.specs.declared.Room.the-variants as room
 use Rattle.answers.specs.Cases.{tillWith}
-use Rattle.answers.specs.Demand3.{Alike, Twins, none, packet, equal, unread}
+use Rattle.answers.specs.Demand3.{History, Alike, Twins, none, packet, equal, unread}
 use Rattle.answers.specs.Replies as r
 use Rattle.answers.specs.Serve.{State, Heard, Bytes, Refused, Step, Send, Store, sound, ledger, store, unlikely, encodedBy, saidBy, serve, ownStore, after, heardOf, run, hears}
 use Rattle.answers.proofs.Demand3.{Agree}
@@ -91,6 +94,24 @@ rightSteps = sequence (0x42 ∷ 0x43 ∷ 0x44 ∷ 0x45 ∷ []) (0x37 ∷ [])
 pub alike-tills : Alike additions left right
 unfolding soundTable sound ledger
 alike-tills = alike additions left right refl (record { soundLeft = refl; soundRight = refl; records = refl; seen = refl; links = refl })
+
+-- and the first of them does come of a new table: an addition with handle 0 is refused, four are accepted, then the values are stored
+pub has-history : History additions left
+unfolding soundTable addRefusal added ownRefusal stored storedLive afterActs acceptedActs
+has-history = record {
+  live = 0x00 ∷ 0x00 ∷ 0x00 ∷ 0x00 ∷ 0x00 ∷ [];
+  acts =
+      act.Adds (addition 0 0x2800 true false (room.Fixed 0 2))
+      ∷ act.Adds (addition 1 0x2800 true false (room.Fixed 0 2))
+      ∷ act.Adds (addition 2 0x2803 true false (room.Fixed 2 5))
+      ∷ act.Adds (addition 3 0x2A19 true false (room.Live 1))
+      ∷ act.Stores 3 (0x64 ∷ [])
+      ∷ act.Adds (addition 4 0xFFF1 false true (room.Live 4))
+      ∷ act.Stores 4 (0x31 ∷ 0x32 ∷ [])
+      ∷ [];
+  table = refl;
+  additions = refl;
+}
 
 pub twin-steps : Twins false additions leftSteps rightSteps
 twin-steps =

@@ -138,14 +138,14 @@ valueItem l i = bytesOf 2 (i .handle) ++ take (l .mtu - 4) (i .value)
 abbrev pub groupItem : List View → Link → Item → List ℕ
 groupItem vs l i = (bytesOf 2 (i .handle) ++ bytesOf 2 (groupEnd (outlines vs) (i .handle))) ++ take (l .mtu - 6) (i .value)
 
-abbrev pub holding : Bool → List ℕ → List ℕ → Item → Bool
-holding encrypted kind value i = equalTypes (i .kind) kind && holds (readingOf encrypted i) value
+abbrev pub holdsValue : Bool → List ℕ → List ℕ → Item → Bool
+holdsValue encrypted kind value i = equalTypes (i .kind) kind && holds (readingOf encrypted i) value
 
 abbrev pub dues : State → List ℕ → List ℕ → List (ℕ × List (List ℕ))
 dues s ns t =
     let is = between (nth ns 0) (nth ns 1) (ledger s) in
     (0x04, map infoItem is)
-    ∷ (0x06, map (pairItem (views s) (bytesOf 2 (nth ns 2))) (keep (holding (s .link .encrypted) (bytesOf 2 (nth ns 2)) t) is))
+    ∷ (0x06, map (pairItem (views s) (bytesOf 2 (nth ns 2))) (keep (holdsValue (s .link .encrypted) (bytesOf 2 (nth ns 2)) t) is))
     ∷ (0x08, map (valueItem (s .link)) (keep (λ (i : Item). equalTypes (i .kind) t) is))
     ∷ (0x10, map (groupItem (views s) (s .link)) (keep (λ (i : Item). equalTypes (i .kind) t) is))
     ∷ []

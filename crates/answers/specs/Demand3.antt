@@ -3,8 +3,10 @@ use Prim.Native.Nat.{ℕ}
 use mathlib.Core.Bool.{Bool, true, false, _&&_, _||_}
 use mathlib.Core.Path.{_≡_}
 use mathlib.Core.List.{List, [], _∷_}
+use lib.ListN.{length}
 use lib.Dec.{eqb}
-use Rattle.attributes.specs.Additions.{layout}
+use Rattle.attributes.specs.Additions.{emptyTable, layout}
+use Rattle.attributes.specs.History.{Act, afterActs, acceptedActs}
 use Rattle.attributes.specs.Ledger.{valueAt}
 use Rattle.attributes.specs.Records.{skeleton}
 use Rattle.attributes.specs.declared.Addition.{Addition}
@@ -19,6 +21,13 @@ mayRead encrypted h (a ∷ adds) = (eqb (a .handle) h && may (a .readable) (a .�
 -- The table was built by these accepted additions: its records are theirs, in order, the current lengths apart.
 abbrev pub BuiltBy : List Addition → State → Type 0
 BuiltBy adds s = skeleton (s .table) ≡ layout 0 adds
+
+-- So it is of every table that came of a new one by additions and the till's own stores, whatever was refused among them.
+pub record History (adds : List Addition) (s : State) : Type 0 where
+  pub live : List ℕ
+  pub acts : List Act
+  pub table : s .table ≡ afterActs (s .fixed) (emptyTable (length (s .fixed)) (length live)) live acts
+  pub additions : acceptedActs (s .fixed) (emptyTable (length (s .fixed)) (length live)) live acts ≡ adds
 
 -- "two sound tables built by the same accepted additions, equal in length and bytes of every attribute this link may read, and
 -- equal link records". Fixed and live bytes are each till's own; nothing is said of values that the link may not read, nor of what
