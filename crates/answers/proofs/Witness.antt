@@ -4,18 +4,20 @@ use Prim.Native.Nat.{ℕ}
 use mathlib.Core.Bool.{Bool, true, false}
 use mathlib.Core.Path.{_≡_, refl}
 use mathlib.Core.List.{List, [], _∷_}
+use lib.ListN.{replicate}
 use Rattle.uuid.specs.Uuids.{equalTypes, short}
 use Rattle.att.specs.Wire.{rows, shapeOf, decodes, strict, send}
-use Rattle.attributes.specs.Additions.{addRefusal, added}
+use Rattle.attributes.specs.Additions.{blank, addRefusal, added}
 use Rattle.attributes.specs.History as act
 use Rattle.attributes.specs.History.{afterActs, acceptedActs}
 use Rattle.attributes.specs.Ledger.{valueAt}
 use Rattle.attributes.specs.Soundness.{soundTable}
 use Rattle.attributes.specs.Stores.{ownRefusal, stored, storedLive}
 use Rattle.attributes.specs.declared.Addition.{Addition}
+use Rattle.attributes.specs.declared.Place.the-variants as place
 use Rattle.attributes.specs.declared.Room as asked
 use Rattle.attributes.specs.declared.Room.the-variants as room
-use Rattle.answers.specs.Cases.{tillWith}
+use Rattle.answers.specs.Cases.{attribute, newLink, tillWith}
 use Rattle.answers.specs.Demand3.{History, Alike, Twins, none, packet, equal, unread}
 use Rattle.answers.specs.Replies as r
 use Rattle.answers.specs.Serve.{State, Heard, Bytes, Refused, Step, Send, Store, sound, ledger, store, unlikely, encodedBy, saidBy, serve, ownStore, after, heardOf, run, hears}
@@ -128,3 +130,17 @@ pub both-hear : ((hears left leftSteps ≡ heard) × (hears right rightSteps ≡
     × ((valueAt 4 (ledger (run left leftSteps)) ≡ 0x61 ∷ 0x62 ∷ 0x63 ∷ 0x64 ∷ []) × (valueAt 4 (ledger (run right rightSteps)) ≡ 0x37 ∷ []))
 unfolding equalTypes rows shapeOf decodes strict send soundTable ownRefusal stored storedLive sound ledger store unlikely encodedBy saidBy serve ownStore after heardOf run hears r.exchange r.at r.reading r.read r.blob r.writing r.write r.moreBy r.more r.searchBy r.search r.within r.rangeOk r.listing r.searched r.groups r.lastOf r.groupEnd r.info r.infos r.findInformation r.holds r.endOf r.pair r.pairs r.findByTypeValue r.valued r.typed r.values r.readByType r.grouped r.groupValues r.readByGroupType r.served r.rowReply r.request r.silent r.command r.replyTo r.linkOk r.reply
 both-hear = ((refl, refl), (refl, refl), (refl, refl))
+
+-- Fixed values that the link may not read may differ, too: one attribute, fixed and not readable, 41 here and 42 there.
+abbrev sealed : ℕ → State
+sealed value = record {
+  table = record { records = attribute 1 0xFFF1 false false (place.Fixed 0 1) ∷ replicate 63 blank; count = 1; «fixed_len» = 1; «live_len» = 0 };
+  link = newLink;
+  fixed = value ∷ [];
+  live = [];
+}
+
+pub alike-sealed : Alike (addition 1 0xFFF1 false false (room.Fixed 0 1) ∷ []) (sealed 0x41) (sealed 0x42)
+unfolding soundTable sound ledger
+alike-sealed =
+    alike _ (sealed 0x41) (sealed 0x42) refl (record { soundLeft = refl; soundRight = refl; records = refl; seen = refl; links = refl })
