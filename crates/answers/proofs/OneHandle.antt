@@ -3,7 +3,7 @@
 -- By computing the served row, and by induction over the ledger down to the handle.
 use Prim.Native.Nat.{ℕ, _-_, _≤_}
 use mathlib.Core.Bool.{Bool, true, false, _&&_, _||_, not}
-use mathlib.Core.Path.{_≡_, refl, _∙_, ap}
+use mathlib.Core.Path.{_≡_, refl, sym, _∙_, ap}
 use mathlib.Core.List.{List, [], _∷_, map}
 use native.Mathlib.Omega.{arith}
 use lib.ListN.{length, take, drop, length-take}
@@ -17,7 +17,7 @@ use Rattle.attributes.specs.Ledger.{Item, atHandle, valueAt}
 use Rattle.answers.specs.View.{View, view, Value, NoRead, may, readingOf}
 use Rattle.answers.specs.Replies.{Packet, Effect, Nothing, Reply, only, errorPacket, error, at, reading, read, blob, served, rowReply, request, silent, replyTo, linkOk, reply}
 use Rattle.answers.specs.Serve.{State, sound, ledger, views, Bytes, Served, coded, unlikely, encodedBy, saidBy, serve, Step, run}
-use Rattle.answers.specs.Auditor.{accepted, lastFor, readAnswer, blobAnswer, unreadable, mayReadAt}
+use Rattle.answers.specs.Auditor.{accepted, lastFor, readAnswer, blobAnswer, unreadable, attributeAt, mayReadAt}
 use Rattle.answers.specs.declared.Link.{Link}
 use Rattle.answers.proofs.Held.{held}
 use Rattle.answers.proofs.Steps.{serve-is, run-sound}
@@ -152,6 +152,46 @@ module _ (s : State) (room : ℕ) (k : sound s ≡ true) (link : linkOk (s .link
       (fits-error l big 0x0C h (unreadable i)))
       (fits-error l big 0x0C h 0x01))
       (leb-true (l .mtu) room fits)
+
+-- So nothing else of table and live bytes decides: where two tills have one link record and the same attribute at the handle, or none,
+-- 0A and 0C of it hear the same from both.
+abbrev givenBy : (Item → wire.Meaning) → wire.Meaning → List Item → wire.Meaning
+givenBy g none [] = none
+givenBy g none (i ∷ is) = g i
+
+at-given : (h : ℕ) (g : Item → wire.Meaning) (none : wire.Meaning) (is : List Item) → atHandle h g none is ≡ givenBy g none (attributeAt h is)
+at-given h g none [] = refl
+at-given h g none (i ∷ is) = by (eqb (i .handle) h) (at-given h g none is)
+  where
+    by : (b : Bool) → atHandle h g none is ≡ givenBy g none (attributeAt h is)
+        → pick b (g i) (atHandle h g none is) ≡ givenBy g none (pick b (i ∷ []) (attributeAt h is))
+    by true q = refl
+    by false q = q
+
+same-given : (h : ℕ) (g : Item → wire.Meaning) (none : wire.Meaning) (is js : List Item) → attributeAt h is ≡ attributeAt h js
+    → atHandle h g none is ≡ atHandle h g none js
+same-given h g none is js e = at-given h g none is ∙ ap (givenBy g none) e ∙ sym (at-given h g none js)
+
+pub one-attribute-decides : (s t : State) (room a b c d : ℕ) → sound s ≡ true → sound t ≡ true → s .link ≡ t .link → linkOk (s .link) ≡ true
+    → leb (s .link .mtu) room ≡ true → attributeAt (numberOf (a ∷ b ∷ [])) (ledger s) ≡ attributeAt (numberOf (a ∷ b ∷ [])) (ledger t)
+    → (serve s (0x0A ∷ a ∷ b ∷ []) room .heard ≡ serve t (0x0A ∷ a ∷ b ∷ []) room .heard)
+    × (serve s (0x0C ∷ a ∷ b ∷ c ∷ d ∷ []) room .heard ≡ serve t (0x0C ∷ a ∷ b ∷ c ∷ d ∷ []) room .heard)
+one-attribute-decides s t room a b c d ks kt links link fits one =
+    let h = numberOf (a ∷ b ∷ []) in
+    let o = numberOf (c ∷ d ∷ []) in
+    let linkT : linkOk (t .link) ≡ true = ap linkOk (sym links) ∙ link in
+    let fitsT : leb (t .link .mtu) room ≡ true = ap (λ (l : Link). leb (l .mtu) room) (sym links) ∙ fits in (
+      read-tells s room ks link fits a b
+          ∙ ap (λ (m : wire.Meaning). Bytes (coded (wire.send m)))
+          (same-given h (readAnswer (s .link) h) (errorPacket 0x0A h 0x01) (ledger s) (ledger t) one
+          ∙ ap (λ (l : Link). atHandle h (readAnswer l h) (errorPacket 0x0A h 0x01) (ledger t)) links)
+          ∙ sym (read-tells t room kt linkT fitsT a b),
+      blob-tells s room ks link fits a b c d
+          ∙ ap (λ (m : wire.Meaning). Bytes (coded (wire.send m)))
+          (same-given h (blobAnswer (s .link) h o) (errorPacket 0x0C h 0x01) (ledger s) (ledger t) one
+          ∙ ap (λ (l : Link). atHandle h (blobAnswer l h o) (errorPacket 0x0C h 0x01) (ledger t)) links)
+          ∙ sym (blob-tells t room kt linkT fitsT a b c d),
+    )
 
 -- The lay reader's form: after any sequence, a client that reads an attribute that it may read hears the value that was last written
 -- to that very handle, cut to the MTU.

@@ -91,6 +91,16 @@ needed =
       ((plain 0x41, Send (0x0A ∷ 0x01 ∷ 0x00 ∷ []) 22 ∷ []), (plain 0x41, reading ∷ [])),
       (Refused InsufficientSpace ∷ [], Bytes (0x0B ∷ 0x41 ∷ []) ∷ []),
     )
+    -- the same packets
+    ∷ (
+      ((plain 0x41, Send (0x0A ∷ 0x02 ∷ 0x00 ∷ []) 23 ∷ []), (plain 0x41, reading ∷ [])),
+      (Bytes (0x01 ∷ 0x0A ∷ 0x02 ∷ 0x00 ∷ 0x01 ∷ []) ∷ [], Bytes (0x0B ∷ 0x41 ∷ []) ∷ []),
+    )
+    -- stores to the same handles
+    ∷ (
+      ((plain 0x41, Store 2 (0x43 ∷ []) ∷ reading ∷ []), (plain 0x41, Store 1 (0x43 ∷ []) ∷ reading ∷ [])),
+      (Bytes (0x0B ∷ 0x41 ∷ []) ∷ [], Bytes (0x0B ∷ 0x43 ∷ []) ∷ []),
+    )
     -- encryption does not change, though it be in both runs: what differed unread is read
     ∷ (
       ((secret 0x41, Encrypt true ∷ reading ∷ []), (secret 0x42, Encrypt true ∷ reading ∷ [])),

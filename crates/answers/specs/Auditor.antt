@@ -110,6 +110,10 @@ blobAnswer l h offset i =
     (pick (leb offset (length (i .value))) (meaning 0x0D [] (take (l .mtu - 1) (drop offset (i .value)))) (errorPacket 0x0C h 0x07))
     (errorPacket 0x0C h (unreadable i))
 
+-- the attribute that has the handle `h`, with its value, or none
+abbrev pub attributeAt : ℕ → List Item → List Item
+attributeAt h is = atHandle h (λ i. i ∷ []) [] is
+
 -- the link may read the attribute that has the handle `h`
 abbrev pub mayReadAt : Bool → ℕ → List Item → Bool
 mayReadAt encrypted h is = atHandle h (λ i. may (i .readable) (i .readEncrypted) encrypted) false is
