@@ -1,0 +1,6 @@
+pub mod Position
+pub mod PositionLaws
+pub mod Reading
+pub mod ReadingLaws
+pub mod Writing
+pub mod WritingLaws
