@@ -2,5 +2,3 @@ pub mod Position
 pub mod PositionLaws
 pub mod Reading
 pub mod ReadingLaws
-pub mod Writing
-pub mod WritingLaws

@@ -5,7 +5,6 @@ ghost use mathlib.Core.Path.{_≡_};
 ghost use Rattle.cursor.specs.Position.{moving, parting};
 
 pub mod read;
-pub mod write;
 
 // What a call that moves the position answers. On a refusal the caller's own position stands.
 pub enum Moved {
@@ -36,7 +35,7 @@ pub enum ReadU32 {
 }
 
 // The one test behind every call: n bytes from the position on, of len.
-pub(crate) fn forward(pos: usize, len: usize, n: usize) -> Moved
+pub fn forward(pos: usize, len: usize, n: usize) -> Moved
     ensures { λ r. ⌜ r ≡ moving pos len n ⌝ }
 {
     if len < pos {
@@ -48,7 +47,7 @@ pub(crate) fn forward(pos: usize, len: usize, n: usize) -> Moved
     Moved::To(pos + n)
 }
 
-pub(crate) fn given(pos: usize, len: usize, n: usize) -> Part
+pub fn given(pos: usize, len: usize, n: usize) -> Part
     ensures { λ r. ⌜ r ≡ parting pos len n ⌝ }
 {
     match forward(pos, len, n) {

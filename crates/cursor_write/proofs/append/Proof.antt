@@ -3,11 +3,11 @@ use Prim.Native.Nat.{_+_, _≤_, _<_}
 use mathlib.Core.Path.{_≡_}
 use lib.ListN.{length}
 use Rattle.codec.specs.declared.Error.the-variants.{InsufficientSpace}
 use Rattle.cursor.specs.PositionLaws.{went, stayed}
-use Rattle.cursor.specs.WritingLaws.{write-whole, write-short}
+use Rattle.cursor_write.specs.WritingLaws.{write-whole, write-short}
 use borrow.Author.Needs.{needs}
-use Rattle.cursor.proofs.write.append.Statement.{statement}
-use Rattle.cursor.proofs.write.append.Tie as tie
+use Rattle.cursor_write.proofs.append.Statement.{statement}
+use Rattle.cursor_write.proofs.append.Tie as tie
 
 room : (c : tie.After-next) → let a = c .before .before .before .before .before .args in (c .next .given .0 .0 ≡ a .pos + (length (a .src .now))) × (a .pos + (length (a .src .now)) ≤ length (a .«data» .now))
 room c =

@@ -1,7 +1,7 @@
 -- Each test picks the lesser.
 use borrow.Author.Tests.{le-leb, lt-leb}
-use Rattle.cursor.proofs.write.truncate.Statement.{statement}
-use Rattle.cursor.proofs.write.truncate.Tie as tie
+use Rattle.cursor_write.proofs.truncate.Statement.{statement}
+use Rattle.cursor_write.proofs.truncate.Tie as tie
 
 returns : tie.Need-returns
 returns c = rw (le-leb _ _ (c .if1 .taken))

@@ -5,10 +5,10 @@ use lib.ListN.{length}
 use mathlib.Core.Path.{sym, _∙_}
 use Rattle.codec.specs.declared.Error.the-variants.{InsufficientSpace}
 use Rattle.codec.specs.BufferLaws.{to-the-end}
 use Rattle.cursor.specs.PositionLaws.{went, stayed, gives, keeps}
 use borrow.Author.Needs.{needs}
-use Rattle.cursor.proofs.write.split_second.Statement.{statement}
-use Rattle.cursor.proofs.write.split_second.Tie as tie
+use Rattle.cursor_write.proofs.split_second.Statement.{statement}
+use Rattle.cursor_write.proofs.split_second.Tie as tie
 
 room : (c : tie.After-enum-told) → let a = c .before .before .before .before .args in (c .enum-told .given .0 .0 ≡ a .pos + (a .n)) × (a .pos + (a .n) ≤ length (a .«data» .now))
 room c =

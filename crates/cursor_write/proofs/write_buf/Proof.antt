@@ -2,10 +2,10 @@
 use mathlib.Core.Path.{_∙_, sym}
 use native.Mathlib.Omega.{arith}
 use Rattle.codec.specs.BufferLaws.{to-the-end, past-the-end}
 use Rattle.cursor.specs.ReadingLaws.{rest-drop}
 use borrow.Author.Needs.{needs}
-use Rattle.cursor.proofs.write.write_buf.Statement.{statement}
-use Rattle.cursor.proofs.write.write_buf.Tie as tie
+use Rattle.cursor_write.proofs.write_buf.Statement.{statement}
+use Rattle.cursor_write.proofs.write_buf.Tie as tie
 
 sub-result : tie.Need-sub-result
 sub-result c = search needs

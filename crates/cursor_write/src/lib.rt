@@ -1,13 +1,13 @@
 // The writing cursor. Where a part is the answer, NAME lends it and NAME_answer says whether it was given.
-use super::Moved;
-use super::Part;
+use cursor::Moved;
+use cursor::Part;
 ghost use mathlib.Core.Path.{_≡_};
 ghost use lib.ListN.{length};
 ghost use Rattle.codec.specs.Buffer.{laidAt};
 ghost use Rattle.primitives.specs.Numbers.{bytesOf};
 ghost use Rattle.cursor.specs.Position.{moving, parting, left};
 ghost use Rattle.cursor.specs.Reading.{rest};
-ghost use Rattle.cursor.specs.Writing.{truncated, splitFirst, splitSecond, writing, filled, finished};
+ghost use Rattle.cursor_write.specs.Writing.{truncated, splitFirst, splitSecond, writing, filled, finished};
 
 pub fn new() -> usize
     ensures { λ r. ⌜ r ≡ 0 ⌝ }
@@ -38,20 +38,20 @@ pub fn len(pos: usize) -> usize
 pub fn available(pos: usize, data: &[u8]) -> usize
     ensures { λ r. ⌜ r ≡ left pos (length (now («data» .entry))) ⌝ }
 {
-    super::read::available(pos, data)
+    cursor::read::available(pos, data)
 }
 
 // Moves the position over bytes that were written through write_buf; the bytes are only looked at.
 pub fn commit(pos: usize, data: &[u8], n: usize) -> Moved
     ensures { λ r. ⌜ r ≡ moving pos (length (now («data» .entry))) n ⌝ }
 {
-    super::forward(pos, data.len(), n)
+    cursor::forward(pos, data.len(), n)
 }
 
 pub fn split_first(pos: usize, data: &mut [u8], n: usize) -> &mut [u8]
     ensures { λ r. ⌜ now r ≡ splitFirst pos (now («data» .entry)) n ⌝ }
 {
-    match super::forward(pos, data.len(), n) {
+    match cursor::forward(pos, data.len(), n) {
         Moved::To(_) => &mut data[0..n],
         Moved::Refused(_) => &mut data[0..0],
     }
@@ -60,7 +60,7 @@ pub fn split_first(pos: usize, data: &mut [u8], n: usize) -> &mut [u8]
 pub fn split_second(pos: usize, data: &mut [u8], n: usize) -> &mut [u8]
     ensures { λ r. ⌜ now r ≡ splitSecond pos (now («data» .entry)) n ⌝ }
 {
-    match super::forward(pos, data.len(), n) {
+    match cursor::forward(pos, data.len(), n) {
         Moved::To(_) => &mut data[n..],
         Moved::Refused(_) => &mut data[0..0],
     }
@@ -69,14 +69,14 @@ pub fn split_second(pos: usize, data: &mut [u8], n: usize) -> &mut [u8]
 pub fn split_answer(pos: usize, data: &[u8], n: usize) -> Part
     ensures { λ r. ⌜ r ≡ parting pos (length (now («data» .entry))) n ⌝ }
 {
-    super::given(pos, data.len(), n)
+    cursor::given(pos, data.len(), n)
 }
 
 pub fn write_u8(pos: usize, data: &mut [u8], v: u8) -> Moved
     ensures { λ r. ⌜ r ≡ writing pos (now («data» .entry)) (bytesOf 1 v) ⌝ }
     ensures { λ _. ⌜ now («data» .exit) ≡ laidAt pos (bytesOf 1 v) (now («data» .entry)) ⌝ }
 {
-    match super::forward(pos, data.len(), 1) {
+    match cursor::forward(pos, data.len(), 1) {
         Moved::To(next) => {
             primitives::write_u8(v, &mut data[pos..]);
             Moved::To(next)
@@ -89,7 +89,7 @@ pub fn write_u16(pos: usize, data: &mut [u8], v: u16) -> Moved
     ensures { λ r. ⌜ r ≡ writing pos (now («data» .entry)) (bytesOf 2 v) ⌝ }
     ensures { λ _. ⌜ now («data» .exit) ≡ laidAt pos (bytesOf 2 v) (now («data» .entry)) ⌝ }
 {
-    match super::forward(pos, data.len(), 2) {
+    match cursor::forward(pos, data.len(), 2) {
         Moved::To(next) => {
             primitives::write_u16(v, &mut data[pos..]);
             Moved::To(next)
@@ -102,7 +102,7 @@ pub fn write_u32(pos: usize, data: &mut [u8], v: u32) -> Moved
     ensures { λ r. ⌜ r ≡ writing pos (now («data» .entry)) (bytesOf 4 v) ⌝ }
     ensures { λ _. ⌜ now («data» .exit) ≡ laidAt pos (bytesOf 4 v) (now («data» .entry)) ⌝ }
 {
-    match super::forward(pos, data.len(), 4) {
+    match cursor::forward(pos, data.len(), 4) {
         Moved::To(next) => {
             primitives::write_u32(v, &mut data[pos..]);
             Moved::To(next)
@@ -115,7 +115,7 @@ pub fn append(pos: usize, data: &mut [u8], src: &[u8]) -> Moved
     ensures { λ r. ⌜ r ≡ writing pos (now («data» .entry)) (now (src .entry)) ⌝ }
     ensures { λ _. ⌜ now («data» .exit) ≡ laidAt pos (now (src .entry)) (now («data» .entry)) ⌝ }
 {
-    match super::forward(pos, data.len(), src.len()) {
+    match cursor::forward(pos, data.len(), src.len()) {
         Moved::To(next) => {
             codec::write_bytes(src, &mut data[pos..]);
             Moved::To(next)
@@ -139,7 +139,7 @@ pub fn write_buf(pos: usize, data: &mut [u8]) -> &mut [u8]
 pub fn write_buf_answer(pos: usize, data: &[u8]) -> Part
     ensures { λ r. ⌜ r ≡ parting pos (length (now («data» .entry))) 0 ⌝ }
 {
-    super::given(pos, data.len(), 0)
+    cursor::given(pos, data.len(), 0)
 }
 
 // The encoder of the next field fills what write_buf lends, and the filled part is handed back.
@@ -147,7 +147,7 @@ pub fn write_buf_answer(pos: usize, data: &[u8]) -> Part
 pub fn fill_u16(pos: usize, data: &mut [u8], v: u16) -> &mut [u8]
     ensures { λ r. ⌜ now r ≡ filled pos (now («data» .entry)) (bytesOf 2 v) ⌝ }
 {
-    match super::forward(pos, data.len(), 2) {
+    match cursor::forward(pos, data.len(), 2) {
         Moved::To(_) => {
             let w = write_buf(pos, data);
             primitives::write_u16(v, &mut w[..]);
@@ -170,5 +170,5 @@ pub fn finish(pos: usize, data: &mut [u8]) -> &mut [u8]
 pub fn finish_answer(pos: usize, data: &[u8]) -> Part
     ensures { λ r. ⌜ r ≡ parting pos (length (now («data» .entry))) 0 ⌝ }
 {
-    super::given(pos, data.len(), 0)
+    cursor::given(pos, data.len(), 0)
 }

@@ -2,11 +2,11 @@
 use mathlib.Core.Path.{sym}
 use lib.ListN.{length}
 use native.Mathlib.Omega.{arith}
 use Rattle.cursor.specs.PositionLaws.{keeps}
-use Rattle.cursor.specs.WritingLaws.{front-whole}
+use Rattle.cursor_write.specs.WritingLaws.{front-whole}
 use borrow.Author.Needs.{needs}
-use Rattle.cursor.proofs.write.finish.Statement.{statement}
-use Rattle.cursor.proofs.write.finish.Tie as tie
+use Rattle.cursor_write.proofs.finish.Statement.{statement}
+use Rattle.cursor_write.proofs.finish.Tie as tie
 
 sub-result : tie.Need-sub-result
 sub-result c = search needs

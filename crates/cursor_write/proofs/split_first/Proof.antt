@@ -4,11 +4,11 @@ use mathlib.Core.Path.{_≡_}
 use lib.ListN.{length}
 use mathlib.Core.Path.{sym}
 use Rattle.codec.specs.declared.Error.the-variants.{InsufficientSpace}
 use Rattle.cursor.specs.PositionLaws.{went, stayed, keeps}
-use Rattle.cursor.specs.WritingLaws.{front-whole}
+use Rattle.cursor_write.specs.WritingLaws.{front-whole}
 use borrow.Author.Needs.{needs}
-use Rattle.cursor.proofs.write.split_first.Statement.{statement}
-use Rattle.cursor.proofs.write.split_first.Tie as tie
+use Rattle.cursor_write.proofs.split_first.Statement.{statement}
+use Rattle.cursor_write.proofs.split_first.Tie as tie
 
 room : (c : tie.After-enum-told) → let a = c .before .before .before .before .args in (c .enum-told .given .0 .0 ≡ a .pos + (a .n)) × (a .pos + (a .n) ≤ length (a .«data» .now))
 room c =

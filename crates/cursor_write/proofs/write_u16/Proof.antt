@@ -4,11 +4,11 @@ use mathlib.Core.Path.{_≡_}
 use lib.ListN.{length}
 use Rattle.codec.specs.declared.Error.the-variants.{InsufficientSpace}
 use Rattle.primitives.specs.Numbers.{bytesOf}
 use Rattle.cursor.specs.PositionLaws.{went, stayed}
-use Rattle.cursor.specs.WritingLaws.{write-whole, write-short}
+use Rattle.cursor_write.specs.WritingLaws.{write-whole, write-short}
 use borrow.Author.Needs.{needs}
-use Rattle.cursor.proofs.write.write_u16.Statement.{statement}
-use Rattle.cursor.proofs.write.write_u16.Tie as tie
+use Rattle.cursor_write.proofs.write_u16.Statement.{statement}
+use Rattle.cursor_write.proofs.write_u16.Tie as tie
 
 room : (c : tie.After-next) → let a = c .before .before .before .before .args in (c .next .given .0 .0 ≡ a .pos + 2) × (a .pos + 2 ≤ length (a .«data» .now))
 room c =

@@ -5,11 +5,11 @@ use lib.ListN.{length}
 use mathlib.Core.Path.{sym}
 use Rattle.codec.specs.declared.Error.the-variants.{InsufficientSpace}
 use Rattle.primitives.specs.Numbers.{bytesOf}
 use Rattle.cursor.specs.PositionLaws.{went, stayed, keeps}
-use Rattle.cursor.specs.WritingLaws.{fill-whole}
+use Rattle.cursor_write.specs.WritingLaws.{fill-whole}
 use borrow.Author.Needs.{needs}
-use Rattle.cursor.proofs.write.fill_u16.Statement.{statement}
-use Rattle.cursor.proofs.write.fill_u16.Tie as tie
+use Rattle.cursor_write.proofs.fill_u16.Statement.{statement}
+use Rattle.cursor_write.proofs.fill_u16.Tie as tie
 
 room : (c : tie.After-enum-told) → let a = c .before .before .before .before .args in (c .enum-told .given .0 .0 ≡ a .pos + 2) × (a .pos + 2 ≤ length (a .«data» .now))
 room c =

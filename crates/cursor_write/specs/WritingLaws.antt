@@ -9,11 +9,11 @@ use Rattle.codec.specs.Buffer.{over, laid, overAt, laidAt}
 use Rattle.codec.specs.BufferLaws.{to-the-end, lent-back}
 use Rattle.codec.specs.declared.Error.{Error}
 use Rattle.codec.specs.declared.Error.the-variants.{InsufficientSpace}
 use Rattle.cursor.specs.Position.{parted}
 use Rattle.cursor.specs.Reading.{rest}
 use Rattle.cursor.specs.ReadingLaws.{rest-drop}
-use Rattle.cursor.specs.Writing.{writing, filled}
+use Rattle.cursor_write.specs.Writing.{writing, filled}
 use Rattle.cursor.specs.declared.Moved.the-variants.{To, Refused}
 
 -- a part from the buffer's start
 pub front-whole : (pos n k : ℕ) (out : List ℕ) → pos + n ≤ length out → take (k - 0) out ≡ parted pos (length out) n (take k out)
