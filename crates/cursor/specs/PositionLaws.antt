@@ -27,6 +27,13 @@ gives pos len n bytes h = rw (le-leb _ _ h)
 pub keeps : (pos len n : ℕ) (bytes : List ℕ) → len < pos + n → parted pos len n bytes ≡ []
 keeps pos len n bytes h = rw (lt-leb _ _ h)
 
+-- "With a position past the end any n is short, and parts are empty."
+pub past-short : (pos len n : ℕ) → len < pos → (moving pos len n ≡ moved.Refused InsufficientSpace) × (parting pos len n ≡ part.Refused InsufficientSpace)
+past-short pos len n h = let k : len < pos + n = omega arith in rw (lt-leb _ _ k) (refl, refl)
+
+pub past-empty : (pos len n : ℕ) (bytes : List ℕ) → len < pos → parted pos len n bytes ≡ []
+past-empty pos len n bytes h = keeps pos len n bytes (omega arith)
+
 -- what an answer tells the one who got it
 pub went : {r : Moved} (pos len n next : ℕ) → r ≡ moved.To next → r ≡ moving pos len n → (next ≡ pos + n) × (pos + n ≤ len)
 went pos len n next g f = by (leb (pos + n) len) refl (sym g ∙ f) where

@@ -3,16 +3,19 @@ use Prim.Native.Nat.{ℕ, _+_, _-_, _≤_, _<_}
 use mathlib.Core.Path.{_≡_, refl, sym, ap, _∙_}
 use mathlib.Core.List.{List, _++_}
 use native.Mathlib.Omega.{arith}
-use lib.ListN.{length, take, drop, length-drop}
+use lib.ListN.{length, take, drop, length-drop, take-append-drop}
+use lib.Seq.{take-at, drop-at, length-take-le}
 use borrow.Author.Tests.{le-leb, lt-leb}
 use Rattle.codec.specs.Buffer.{over, laid, overAt, laidAt}
 use Rattle.codec.specs.BufferLaws.{to-the-end, lent-back}
 use Rattle.codec.specs.declared.Error.{Error}
 use Rattle.codec.specs.declared.Error.the-variants.{InsufficientSpace}
+use Rattle.primitives.specs.Numbers.{bytesOf, numberAt, limit}
+use Rattle.primitives.specs.NumbersLaws.{length-bytes, number-bytes}
 use Rattle.cursor.specs.Position.{parted}
 use Rattle.cursor.specs.Reading.{rest}
 use Rattle.cursor.specs.ReadingLaws.{rest-drop}
-use Rattle.cursor_write.specs.Writing.{writing, filled}
+use Rattle.cursor_write.specs.Writing.{writing, filled, splitFirst, splitSecond}
 use Rattle.cursor.specs.declared.Moved.the-variants.{To, Refused}
 
 -- a part from the buffer's start
@@ -42,3 +45,16 @@ fill-whole pos bytes out lent w h e f =
     let d : lent ≡ drop pos out = e ∙ rest-drop pos out in
     let k : length bytes ≤ length lent = rw (d, length-drop) (omega arith) in
     f ∙ laid-over bytes lent k ∙ rw (le-leb _ _ h, d)
+
+-- a split that is not refused is the whole buffer in two parts
+pub split-joins : (pos n : ℕ) (out : List ℕ) → pos + n ≤ length out → splitFirst pos out n ++ splitSecond pos out n ≡ out
+split-joins pos n out h = rw (le-leb _ _ h, take-append-drop n out)
+
+-- a number that was written at a position is read there
+pub read-back : (width pos v : ℕ) (out : List ℕ) → pos ≤ length out → v < limit width → numberAt width pos (overAt pos (bytesOf width v) out) ≡ v
+read-back width pos v out h k =
+    rw (
+      drop-at (take pos out) (over (bytesOf width v) (drop pos out)) pos (length-take-le pos out h),
+      take-at (bytesOf width v) (drop (length (bytesOf width v)) (drop pos out)) width (length-bytes width v),
+      number-bytes width v k,
+    )

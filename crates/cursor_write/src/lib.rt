@@ -1,44 +1,19 @@
-// The writing cursor. Where a part is the answer, NAME lends it and NAME_answer says whether it was given.
+// cursor.rs: the writing cursor. Its new, reset, len and available are the position's, in the crate cursor.
+// Where a part is the answer, a refusal lends the empty part, and `cursor::given` says which it was.
 use cursor::Moved;
-use cursor::Part;
 ghost use mathlib.Core.Path.{_≡_};
 ghost use lib.ListN.{length};
 ghost use Rattle.codec.specs.Buffer.{laidAt};
 ghost use Rattle.primitives.specs.Numbers.{bytesOf};
-ghost use Rattle.cursor.specs.Position.{moving, parting, left};
+ghost use Rattle.cursor.specs.Position.{moving};
 ghost use Rattle.cursor.specs.Reading.{rest};
 ghost use Rattle.cursor_write.specs.Writing.{truncated, splitFirst, splitSecond, writing, filled, finished};
-
-pub fn new() -> usize
-    ensures { λ r. ⌜ r ≡ 0 ⌝ }
-{
-    0
-}
-
-pub fn reset() -> usize
-    ensures { λ r. ⌜ r ≡ 0 ⌝ }
-{
-    0
-}
 
 // Moves the position back to npos; it never moves it on.
 pub fn truncate(pos: usize, npos: usize) -> usize
     ensures { λ r. ⌜ r ≡ truncated pos npos ⌝ }
 {
     if pos <= npos { pos } else { npos }
-}
-
-// The length of what was written so far: the position.
-pub fn len(pos: usize) -> usize
-    ensures { λ r. ⌜ r ≡ pos ⌝ }
-{
-    pos
-}
-
-pub fn available(pos: usize, data: &[u8]) -> usize
-    ensures { λ r. ⌜ r ≡ left pos (length (now («data» .entry))) ⌝ }
-{
-    cursor::read::available(pos, data)
 }
 
 // Moves the position over bytes that were written through write_buf; the bytes are only looked at.
@@ -64,12 +39,6 @@ pub fn split_second(pos: usize, data: &mut [u8], n: usize) -> &mut [u8]
         Moved::To(_) => &mut data[n..],
         Moved::Refused(_) => &mut data[0..0],
     }
-}
-
-pub fn split_answer(pos: usize, data: &[u8], n: usize) -> Part
-    ensures { λ r. ⌜ r ≡ parting pos (length (now («data» .entry))) n ⌝ }
-{
-    cursor::given(pos, data.len(), n)
 }
 
 pub fn write_u8(pos: usize, data: &mut [u8], v: u8) -> Moved
@@ -136,12 +105,6 @@ pub fn write_buf(pos: usize, data: &mut [u8]) -> &mut [u8]
     }
 }
 
-pub fn write_buf_answer(pos: usize, data: &[u8]) -> Part
-    ensures { λ r. ⌜ r ≡ parting pos (length (now («data» .entry))) 0 ⌝ }
-{
-    cursor::given(pos, data.len(), 0)
-}
-
 // The encoder of the next field fills what write_buf lends, and the filled part is handed back.
 // Whether it was filled is what commit answers for two bytes.
 pub fn fill_u16(pos: usize, data: &mut [u8], v: u16) -> &mut [u8]
@@ -165,10 +128,4 @@ pub fn finish(pos: usize, data: &mut [u8]) -> &mut [u8]
     } else {
         &mut data[0..0]
     }
-}
-
-pub fn finish_answer(pos: usize, data: &[u8]) -> Part
-    ensures { λ r. ⌜ r ≡ parting pos (length (now («data» .entry))) 0 ⌝ }
-{
-    cursor::given(pos, data.len(), 0)
 }

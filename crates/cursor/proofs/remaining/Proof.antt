@@ -4,8 +4,8 @@ use native.Mathlib.Omega.{arith}
 use Rattle.codec.specs.BufferLaws.{to-the-end, past-the-end}
 use Rattle.cursor.specs.ReadingLaws.{rest-drop}
 use borrow.Author.Needs.{needs}
-use Rattle.cursor.proofs.read.remaining.Statement.{statement}
-use Rattle.cursor.proofs.read.remaining.Tie as tie
+use Rattle.cursor.proofs.remaining.Statement.{statement}
+use Rattle.cursor.proofs.remaining.Tie as tie
 
 sub-result : tie.Need-sub-result
 sub-result c = search needs

@@ -7,8 +7,8 @@ use Rattle.codec.specs.declared.Error.the-variants.{InsufficientSpace}
 use Rattle.cursor.specs.PositionLaws.{went, stayed, keeps}
 use Rattle.cursor.specs.ReadingLaws.{slice-whole}
 use borrow.Author.Needs.{needs}
-use Rattle.cursor.proofs.read.slice.Statement.{statement}
-use Rattle.cursor.proofs.read.slice.Tie as tie
+use Rattle.cursor.proofs.slice.Statement.{statement}
+use Rattle.cursor.proofs.slice.Tie as tie
 
 room : (c : tie.After-next) → let a = c .before .before .before .before .args in (c .next .given .0 .0 ≡ a .pos + (a .n)) × (a .pos + (a .n) ≤ length (a .«data» .now))
 room c =

@@ -8,8 +8,8 @@ use Rattle.cursor.specs.declared.ReadU8.the-variants.{Value, Refused}
 use Rattle.cursor.specs.PositionLaws.{went, stayed}
 use Rattle.cursor.specs.ReadingLaws.{read-whole, read-short}
 use borrow.Author.Needs.{needs}
-use Rattle.cursor.proofs.read.read_u8.Statement.{statement}
-use Rattle.cursor.proofs.read.read_u8.Tie as tie
+use Rattle.cursor.proofs.read_u8.Statement.{statement}
+use Rattle.cursor.proofs.read_u8.Tie as tie
 
 room : (c : tie.After-next) → let a = c .before .before .before .before .args in (c .next .given .0 .0 ≡ a .pos + 1) × (a .pos + 1 ≤ length (a .«data» .now))
 room c =

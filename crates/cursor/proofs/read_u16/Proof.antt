@@ -8,8 +8,8 @@ use Rattle.cursor.specs.declared.ReadU16.the-variants.{Value, Refused}
 use Rattle.cursor.specs.PositionLaws.{went, stayed}
 use Rattle.cursor.specs.ReadingLaws.{read-whole, read-short}
 use borrow.Author.Needs.{needs}
-use Rattle.cursor.proofs.read.read_u16.Statement.{statement}
-use Rattle.cursor.proofs.read.read_u16.Tie as tie
+use Rattle.cursor.proofs.read_u16.Statement.{statement}
+use Rattle.cursor.proofs.read_u16.Tie as tie
 
 room : (c : tie.After-next) → let a = c .before .before .before .before .args in (c .next .given .0 .0 ≡ a .pos + 2) × (a .pos + 2 ≤ length (a .«data» .now))
 room c =
