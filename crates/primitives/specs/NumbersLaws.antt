@@ -3,11 +3,11 @@
 use Prim.Native.Nat.{ℕ, zero, suc, _+_, _*_, _/_, _%_, _≤_, _<_}
 use mathlib.Core.Path.{_≡_, refl, sym, ap, _∙_}
 use mathlib.Core.List.{List, [], _∷_, _++_}
-use native.Mathlib.Nat.{mod-lt, mod-eq-of-lt, div-add-mod}
+use native.Mathlib.Nat.{mod-lt, mod-eq-of-lt, div-add-mod, mul-add, mul-assoc}
 use native.Mathlib.Numerals.{add-one}
 use native.Mathlib.Omega.{arith}
-use lib.ListN.{length, take, drop, getD, drop-of-length-le}
-use lib.Seq.{drop-cons, take-nil}
+use lib.ListN.{length, take, drop, getD, drop-of-length-le, length-drop}
+use lib.Seq.{drop-cons, take-nil, take-add, drop-drop, length-take-le}
 use borrow.Author.Tests.{le-leb, lt-leb}
 use Rattle.primitives.specs.Numbers.{bytesOf, numberOf, numberAt, limit, Octets, reading}
 
@@ -75,6 +75,16 @@ number-past width at l h = rw (drop-of-length-le l h, take-nil)
 
 pub number-last : (width at : ℕ) (l : List ℕ) → at + 1 ≡ length l → numberAt (suc width) at l ≡ getD l at 0 + 256 * 0
 number-last width at l h = rw (drop-cons l at 0 (omega arith), ← add-one at, drop-of-length-le l {i = at + 1} (omega arith), take-nil {A = ℕ} width)
+
+-- a number in two parts: the later bytes count by what the earlier ones can hold
+pub number-append : (a b : List ℕ) → numberOf (a ++ b) ≡ numberOf a + limit (length a) * numberOf b
+number-append [] b = omega arith
+number-append (x ∷ xs) b = rw (number-append xs b, mul-add, mul-assoc) (omega arith)
+
+pub number-split : (a b at : ℕ) (l : List ℕ) → at + a ≤ length l → numberAt (a + b) at l ≡ numberAt a at l + limit a * numberAt b (at + a) l
+number-split a b at l h =
+    let e : length (take a (drop at l)) ≡ a = length-take-le a (drop at l) (simp length-drop (omega arith)) in
+    rw (take-add a b (drop at l), number-append (take a (drop at l)) (take b (drop a (drop at l))), e, drop-drop)
 
 -- the two answers of reading a number
 pub short : {A : Type 0} (width : ℕ) (value : ℕ → A) (refused : A) (src : List ℕ) → length src < width

@@ -86,8 +86,8 @@ pub fn write_u32(v: u32, dest: &mut [u8]) -> Written
     Written::Done(4)
 }
 
-// The byte, and the number in the two bytes, at a place of a packet. For readers that have compared the
-// length already: what lies past the end counts as nothing.
+// The byte, and the number in the two or four bytes, at a place of a packet. For readers that have
+// compared the length already: what lies past the end counts as nothing.
 pub fn u8_at(src: &[u8], at: usize) -> u8
     ensures { λ r. ⌜ r ≡ numberAt 1 at (now (src .entry)) ⌝ }
 {
@@ -107,6 +107,18 @@ pub fn u16_at(src: &[u8], at: usize) -> u16
         return pair(src[at], 0);
     }
     pair(src[at], src[at + 1])
+}
+
+pub fn u32_at(src: &[u8], at: usize) -> u32
+    ensures { λ r. ⌜ r ≡ numberAt 4 at (now (src .entry)) ⌝ }
+{
+    if src.len() <= at {
+        return 0;
+    }
+    if src.len() - at < 2 {
+        return double(u16_at(src, at), 0);
+    }
+    double(u16_at(src, at), u16_at(src, at + 2))
 }
 
 fn pair(low: u8, high: u8) -> u16

@@ -1,0 +1,4 @@
+pub mod Position
+pub mod PositionLaws
+pub mod Reading
+pub mod ReadingLaws
