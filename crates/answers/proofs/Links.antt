@@ -14,7 +14,7 @@ use Rattle.codec.specs.declared.Refusal.the-variants.{InsufficientSpace, Invali
 use Rattle.primitives.specs.Numbers.{bytesOf}
 use Rattle.att.specs.Wire.{meaning, shapeOf, shapeMeans, Coded, Sent, NotSent, send}
 use Rattle.answers.specs.View.{View, Writing, UpTo, NoWrite}
-use Rattle.answers.specs.Replies.{Says, Packet, Silence, Refuses, Effect, Nothing, Stores, Agrees, Reply, doing, only, error, exchange, writing, at, write, rangeOk, searched, groups, info, infos, findInformation, pair, pairs, findByTypeValue, typed, values, readByType, grouped, groupValues, readByGroupType, nth, quietly, linkOk, replyTo, reply}
+use Rattle.answers.specs.Replies.{Says, Packet, Silence, Refuses, Effect, Nothing, Stores, Agrees, Reply, doing, only, error, exchange, writing, write, rangeOk, searched, groups, info, infos, findInformation, pair, pairs, findByTypeValue, typed, values, readByType, grouped, groupValues, readByGroupType, nth, linkOk, replyTo, reply}
 use Rattle.answers.specs.Serve.{State, sound, views, changed, Send, after}
 use Rattle.answers.specs.Auditor.{codedEffect, saidEffect, asked}
 use Rattle.answers.specs.declared.Link.{Link}

@@ -16,7 +16,7 @@ use Rattle.att.specs.Wire as wire
 use Rattle.attributes.specs.Ledger.{Item, atHandle, valueAt}
 use Rattle.answers.specs.View.{View, view, Value, NoRead, may, readingOf}
 use Rattle.answers.specs.Replies.{Packet, Effect, Nothing, Reply, only, errorPacket, error, at, reading, read, blob, served, rowReply, request, silent, replyTo, linkOk, reply}
-use Rattle.answers.specs.Serve.{State, sound, ledger, views, Bytes, Served, coded, unlikely, encodedBy, saidBy, serve, Step, run}
+use Rattle.answers.specs.Serve.{State, sound, ledger, views, Bytes, Served, coded, encodedBy, saidBy, serve, Step, run}
 use Rattle.answers.specs.Auditor.{accepted, lastFor, readAnswer, blobAnswer, unreadable, attributeAt, mayReadAt}
 use Rattle.answers.specs.declared.Link.{Link}
 use Rattle.answers.proofs.Held.{held}

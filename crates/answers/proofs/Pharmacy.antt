@@ -1,7 +1,6 @@
 -- The auditor's sentence is not empty: a till with an expiry and a lot of one type, stored and written in turn, and what a client is
 -- told of the two. By computing both sides.
-use Prim.Native.Nat.{ℕ}
-use mathlib.Core.Bool.{true, false}
+use mathlib.Core.Bool.{true}
 use mathlib.Core.Path.{_≡_, refl}
 use mathlib.Core.List.{List, [], _∷_}
 use lib.ListN.{replicate}
@@ -12,7 +11,7 @@ use Rattle.attributes.specs.Additions.{blank}
 use Rattle.attributes.specs.Soundness.{soundTable}
 use Rattle.attributes.specs.Stores.{ownRefusal, stored, storedLive}
 use Rattle.attributes.specs.declared.Place.the-variants.{Live}
-use Rattle.answers.specs.Auditor.{Write, asked, accepted, Told, tells, told}
+use Rattle.answers.specs.Auditor.{asked, accepted, tells, told}
 use Rattle.answers.specs.Cases.{attribute, newLink}
 use Rattle.answers.specs.Replies as r
 use Rattle.answers.specs.Serve.{State, Step, Send, Store, Encrypt, sound, ledger, store, unlikely, encodedBy, saidBy, serve, ownStore, after, run}

@@ -1,7 +1,7 @@
 -- What a client reads of a list that was sent: once over the row, the packet that was meant, and exactly its items. By the laws of the
 -- wire on fields and items.
 use Prim.Native.Nat.{ℕ, _≤_}
-use mathlib.Core.Bool.{Bool, true}
+use mathlib.Core.Bool.{true}
 use mathlib.Core.Path.{_≡_, refl, sym, _∙_, ap}
 use mathlib.Core.List.{List, [], _∷_, _++_}
 use native.Mathlib.Omega.{arith}
@@ -12,9 +12,9 @@ use borrow.Author.Tests.{le-leb}
 use Rattle.codec.specs.Cases.{pick}
 use Rattle.att.proofs.FieldBytes.{length-sent, numbers-sent}
 use Rattle.att.proofs.NoShift.{AllOf, items-join, items-of-joined}
-use Rattle.att.specs.Items.{items, itemsOf, joined}
+use Rattle.att.specs.Items.{itemsOf, joined}
 use Rattle.att.specs.Proper.{Fields}
-use Rattle.att.specs.Wire.{Tail, Items, Shape, shape, shapeOf, total, numbers, shapeDecodes, decodes, meaning, shapeMeans, Read, Means, NotRead, read, whole, sentFields, Coded, Sent, shapeSends, send}
+use Rattle.att.specs.Wire.{Items, Shape, shape, shapeOf, total, numbers, shapeDecodes, decodes, meaning, shapeMeans, Means, NotRead, read, whole, sentFields, Sent, shapeSends, send}
 
 module _ (op : ℕ) (ws ns : List ℕ) (width : List ℕ → ℕ) (least : ℕ) (is : List (List ℕ)) (row : shapeOf op ≡ shape ws (Items width least))
     (fields : Fields ws ns) (long : 2 ≤ width ns) (all : AllOf (width ns) is) where

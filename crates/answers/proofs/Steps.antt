@@ -2,7 +2,7 @@
 -- encryption, the encryption. The laws of the table say what a store does; serving is taken apart by what the encoder says.
 use Prim.Native.Nat.{ℕ}
 use mathlib.Core.Bool.{Bool, true, false}
-use mathlib.Core.Path.{_≡_, refl, sym, _∙_, ap, ap₂}
+use mathlib.Core.Path.{_≡_, refl, _∙_, ap, ap₂}
 use mathlib.Core.List.{List, [], _∷_, map}
 use lib.ListN.{length}
 use lib.Dec.{leb}
@@ -14,7 +14,7 @@ use Rattle.attributes.specs.Records.{skeleton}
 use Rattle.attributes.specs.StoreLaws as laws
 use Rattle.attributes.specs.Stores.{put}
 use Rattle.attributes.specs.declared.Table.{Table}
-use Rattle.answers.specs.Replies.{Says, Packet, Silence, Refuses, Effect, Nothing, Stores, Agrees, Reply, reply}
+use Rattle.answers.specs.Replies.{Says, Packet, Silence, Refuses, Effect, Nothing, Stores, Agrees, reply}
 use Rattle.answers.specs.Serve.{State, sound, ledger, views, store, changed, Heard, Bytes, Refused, Served, serving, unlikely, encodedBy, saidBy, serve, ownStore, Step, Send, Store, Encrypt, after, run}
 use Rattle.answers.specs.Auditor.{codedEffect, saidEffect, asked}
 

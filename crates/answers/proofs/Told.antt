@@ -10,10 +10,10 @@ use lib.ListN.{length, take, drop, length-append, length-take}
 use lib.Seq.{take-length}
 use lib.Dec.{leb, eqb}
 use borrow.Author.Tests.{leb-true, eq-eqb, ne-eqb}
-use Rattle.codec.specs.Cases.{pick, lookup, same}
+use Rattle.codec.specs.Cases.{pick, lookup}
 use Rattle.codec.specs.CasesLaws.{both, same-equal}
 use Rattle.codec.specs.declared.Refusal.{Refusal}
-use Rattle.codec.specs.declared.Refusal.the-variants.{BadLink, InvalidValue, InsufficientSpace}
+use Rattle.codec.specs.declared.Refusal.the-variants.{BadLink, InsufficientSpace}
 use Rattle.primitives.specs.Numbers.{bytesOf, numberOf, numberAt}
 use Rattle.primitives.specs.NumbersLaws.{number-bytes}
 use Rattle.uuid.specs.Uuids.{own, equalTypes}
@@ -26,14 +26,14 @@ use Rattle.att.specs.Items.{itemsOf, joined}
 use Rattle.att.specs.Proper.{Fields}
 use Rattle.att.specs.Wire as wire
 use Rattle.attributes.specs.Ledger.{Item, item, valueAt}
-use Rattle.attributes.specs.Records.{entries, bare, skeleton}
+use Rattle.attributes.specs.Records.{entries, bare}
 use Rattle.attributes.specs.Soundness.{typeOk, recordOk, slotsEnd, recordsOk}
 use Rattle.attributes.specs.SoundnessLaws.{good, sound-parts}
 use Rattle.attributes.specs.declared.Record.{Record}
 use Rattle.answers.specs.View.{View, view, Reading, Value, NoRead, Writing, UpTo, NoWrite, readingOf}
-use Rattle.answers.specs.Replies.{Says, Packet, Silence, Refuses, Effect, Nothing, Stores, Agrees, Reply, Part, Skip, Take, Fail, Listed, doing, only, errorPacket, error, exchange, writing, at, write, search, keep, within, rangeOk, searched, groups, outlines, groupEnd, endOf, info, infos, findInformation, holds, pair, pairs, findByTypeValue, valued, typed, values, read, blob, readByType, grouped, groupValues, readByGroupType, nth, linkOk, replyTo, reply}
-use Rattle.answers.specs.Serve.{State, sound, ledger, views, changed, Heard, Bytes, Served, serving, unlikely, encodedBy, saidBy, serve, Step, run}
-use Rattle.answers.specs.Auditor.{accepted, lastFor, Told, tells, TrueOf, toldIn, toldBy, readHeard, told, itemsIn, Starts, between, infoItem, pairItem, valueItem, groupItem, holdsValue, dues, due, Each, Typed}
+use Rattle.answers.specs.Replies.{Packet, Silence, Refuses, Effect, Nothing, Stores, Agrees, Reply, Part, Skip, Take, Listed, doing, only, errorPacket, error, exchange, writing, at, write, search, keep, within, rangeOk, searched, groups, outlines, groupEnd, endOf, info, infos, findInformation, holds, pair, pairs, findByTypeValue, valued, typed, values, read, blob, readByType, grouped, groupValues, readByGroupType, nth, linkOk, replyTo, reply}
+use Rattle.answers.specs.Serve.{State, sound, ledger, views, changed, Bytes, serving, unlikely, encodedBy, saidBy, serve, Step, run}
+use Rattle.answers.specs.Auditor.{accepted, lastFor, Told, tells, TrueOf, toldBy, readHeard, told, itemsIn, Starts, between, infoItem, pairItem, valueItem, groupItem, holdsValue, dues, due, Each, Typed}
 use Rattle.answers.specs.declared.Link.{Link}
 use Rattle.answers.proofs.Held.{held}
 use Rattle.answers.proofs.Lists.{each, each-so, each-two, each-map, each-kept, each-keep, each-start, cut}
@@ -113,10 +113,6 @@ shows-value false c x b e = let z : _≡_ {A = ℕ} 0 1 = cc in absurd (omega ar
 
 shown-value : (e : Bool) (i : Item) (b : List ℕ) → readingOf e i ≡ Value b → i .value ≡ b
 shown-value e i b h = shows-value (i .readable) (not (i .readEncrypted) || e) (i .value) b h
-
--- The handle in front of an item.
-front-handle : (h : ℕ) (x : List ℕ) → h < 65536 → numberAt 2 0 (bytesOf 2 h ++ x) ≡ h
-front-handle h x l = number-bytes 2 h l
 
 -- Of a request `q`, and what is read as its answer.
 FairRead : State → wire.Meaning → wire.Read → Type 0

@@ -20,8 +20,7 @@ use Rattle.attributes.specs.declared.Room.the-variants as room
 use Rattle.answers.specs.Cases.{attribute, newLink, tillWith}
 use Rattle.answers.specs.Demand3.{History, Alike, Twins, none, packet, equal, unread}
 use Rattle.answers.specs.Replies as r
-use Rattle.answers.specs.Serve.{State, Heard, Bytes, Refused, Step, Send, Store, sound, ledger, store, unlikely, encodedBy, saidBy, serve, ownStore, after, heardOf, run, hears}
-use Rattle.answers.proofs.Demand3.{Agree}
+use Rattle.answers.specs.Serve.{State, Heard, Bytes, Step, Send, Store, sound, ledger, store, unlikely, encodedBy, saidBy, serve, ownStore, after, heardOf, run, hears}
 use Rattle.answers.proofs.Plain.{alike}
 
 abbrev addition : ℕ → ℕ → Bool → Bool → asked.Room → Addition

@@ -24,7 +24,7 @@ use Rattle.attributes.specs.declared.Outcome.the-variants.{Accepted}
 use Rattle.attributes.specs.declared.Record.{Record}
 use Rattle.answers.specs.View.{View, view, Writing, UpTo, NoWrite, writingOf}
 use Rattle.answers.specs.Replies.{Says, Packet, Silence, Refuses, Effect, Nothing, Stores, Agrees, Reply, doing, only, error, exchange, at, writing, write, rangeOk, searched, groups, info, infos, findInformation, pair, pairs, findByTypeValue, typed, values, readByType, grouped, groupValues, readByGroupType, nth, linkOk, replyTo, reply}
-use Rattle.answers.specs.Serve.{State, sound, ledger, views, changed, Heard, Bytes, Served, serving, unlikely, encodedBy, saidBy, serve, ownOutcome, Send, Store, after}
+use Rattle.answers.specs.Serve.{State, sound, ledger, views, changed, Bytes, Served, serving, unlikely, encodedBy, saidBy, serve, ownOutcome, Send, Store, after}
 use Rattle.answers.specs.Auditor.{Each, codedEffect, saidEffect, asked}
 use Rattle.answers.specs.declared.Link.{Link}
 use Rattle.answers.proofs.Held.{step-value}
