@@ -67,10 +67,11 @@ module _ (fl ll : ℕ) where
   apart last at zero i j (r ∷ rs) d o h p q = absurd (not-suc-le-zero p)
   apart last at (suc n) i zero (r ∷ rs) d o h p q = absurd (not-suc-le-zero h)
   apart last at (suc n) zero (suc j) (r ∷ rs) d o h p q =
-      let g = both (recordOk fl ll last at r) _ o in
-      (rises-all fl ll (r .handle) (slotsEnd at r) n j rs d (g .1) (le-of-suc-le-suc p) (le-of-suc-le-suc q),
-      before at (r .place) (getD rs j d .place) (good fl ll last at r (g .0) .begins)
-      (later (slotsEnd at r) (r .handle) (slotsEnd at r) n j rs d (omega arith) (g .1) (le-of-suc-le-suc p) (le-of-suc-le-suc q)))
+      let g = both (recordOk fl ll last at r) _ o in (
+        rises-all fl ll (r .handle) (slotsEnd at r) n j rs d (g .1) (le-of-suc-le-suc p) (le-of-suc-le-suc q),
+        before at (r .place) (getD rs j d .place) (good fl ll last at r (g .0) .begins)
+            (later (slotsEnd at r) (r .handle) (slotsEnd at r) n j rs d (omega arith) (g .1) (le-of-suc-le-suc p) (le-of-suc-le-suc q)),
+      )
   apart last at (suc n) (suc i) (suc j) (r ∷ rs) d o h p q =
       apart (r .handle) (slotsEnd at r) n i j rs d (both (recordOk fl ll last at r) _ o .1) (le-of-suc-le-suc h) (le-of-suc-le-suc p) (le-of-suc-le-suc q)
 

@@ -66,8 +66,8 @@ module _ (t : Table) (a : Addition) (fl ll : ℕ) (rest : List Addition) (full :
   add-skeleton Accepted e =
       let at = used 0 (entries t) in
       let grows : skeleton (added t a fl ll .table) ≡ skeleton t ++ fresh at a ∷ [] =
-          ap (map bare) (add-entries t a full fl ll e) ∙ map-append bare (entries t) (fresh at a ∷ [])
-          ∙ ap (λ (r : Record). skeleton t ++ r ∷ []) (bare-fresh at a) in
+      ap (map bare) (add-entries t a full fl ll e) ∙ map-append bare (entries t) (fresh at a ∷ [])
+      ∙ ap (λ (r : Record). skeleton t ++ r ∷ []) (bare-fresh at a) in
       rw (grows, used-more 0 (skeleton t) (fresh at a), append-assoc (skeleton t) (fresh at a ∷ []) (layout (slotsEnd (used 0 (skeleton t)) (fresh at a)) rest), bare-used 0 (entries t))
 
 pub built-on : (fixed : List ℕ) (t : Table) (live : List ℕ) (acts : List Act) → length (t .records) ≡ 64

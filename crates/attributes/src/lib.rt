@@ -37,13 +37,8 @@ pub struct Table {
 
 // What an addition asks for: a part of the fixed bytes, or a live slot.
 pub enum Room {
-    Fixed {
-        at: usize,
-        len: usize,
-    },
-    Live {
-        capacity: usize,
-    },
+    Fixed { at: usize, len: usize },
+    Live { capacity: usize },
 }
 
 // An attribute to be added.
