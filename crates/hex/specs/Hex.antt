@@ -4,12 +4,16 @@
 use Prim.Native.Nat.{ℕ, _+_, _-_, _*_, _%_}
 use mathlib.Core.Bool.{Bool, true, false, _&&_, _||_}
 use mathlib.Core.List.{List, [], _∷_, map}
-use lib.ListN.{length}
+use lib.ListN.{length, getD, replicate}
 use lib.Dec.{leb, ltb, eqb}
 use Rattle.codec.specs.Cases.{pick}
-use Rattle.codec.specs.Buffer.{laid}
+use Rattle.codec.specs.Buffer.{over, laid}
+use Rattle.bytes.specs.Bytes.{rev}
 use Rattle.hex.specs.declared.Hex.{Hex}
 use Rattle.hex.specs.declared.Hex.the-variants.{Bytes, NotHex, TooLong}
+use Rattle.hex.specs.declared.Handle.{Handle}
+use Rattle.hex.specs.declared.Handle.the-variants.{At, NotHandle}
+use Rattle.hex.specs.declared.TypeRead.{TypeRead}
 use Rattle.hex.specs.declared.Number.{Number}
 use Rattle.hex.specs.declared.Number.the-variants.{Is, NotNumber}
 
@@ -85,5 +89,31 @@ abbrev pub decimalOf : List ℕ → Number
 decimalOf word = numberOf 10 18446744073709551615 word
 
 -- HANDLE is 4 hexadecimal digits
-unfoldable pub handleOf : List ℕ → Number
-handleOf word = pick (eqb (length word) 4) (numberOf 16 65535 word) NotNumber
+abbrev pub asHandle : Number → Handle
+asHandle (Is n) = At n
+asHandle NotNumber = NotHandle
+
+unfoldable pub handleOf : List ℕ → Handle
+handleOf word = pick (eqb (length word) 4) (asHandle (numberOf 16 65535 word)) NotHandle
+
+-- TYPE is 4 or 8 hexadecimal digits, or the 36 characters of the usual form of a 128-bit UUID: 32 digits, with `-` as the
+-- characters 8, 13, 18 and 23. So many bytes has a type of a word's outline; 0 for any other outline.
+abbrev pub hyphened : List ℕ → Bool
+hyphened word = eqb (getD word 8 0) 45 && eqb (getD word 13 0) 45 && eqb (getD word 18 0) 45 && eqb (getD word 23 0) 45
+
+unfoldable pub outline : List ℕ → ℕ
+outline word =
+    pick (eqb (length word) 4) 2
+    (pick (eqb (length word) 8) 4
+    (pick (eqb (length word) 36) (pick (hyphened word) 16 0) 0))
+
+-- sixteen bytes: those of the type, the least significant first, and 00 behind them
+abbrev pub typed : List ℕ → TypeRead
+typed bytes = record { len = length bytes; bytes = over (rev bytes) (replicate 16 0) }
+
+abbrev pub typeFrom : ℕ → Meaning → TypeRead
+typeFrom n none = typed []
+typeFrom n (some bytes) = pick (eqb (length bytes) n) (typed bytes) (typed [])
+
+unfoldable pub typeOf : List ℕ → TypeRead
+typeOf word = typeFrom (outline word) (digitsMean (values (without 45 45 word)))

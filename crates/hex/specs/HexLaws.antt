@@ -2,18 +2,22 @@
 use Prim.Native.Nat.{ℕ, suc, _+_, _-_, _*_, _/_, _%_, _≤_, _<_}
 use mathlib.Core.Path.{_≡_, refl, sym, ap, _∙_}
 use mathlib.Core.Bool.{Bool, true, false, _&&_, _||_}
-use mathlib.Core.List.{List, [], _∷_, _++_, map, append-assoc}
+use mathlib.Core.List.{List, [], _∷_, _++_, map, reverse, append-assoc}
 use native.Mathlib.Omega.{arith}
 use native.Mathlib.Numerals.{add-one}
-use native.Mathlib.Nat.{add-zero}
-use lib.ListN.{length, take, drop, getD, set, length-append, length-drop, length-map, drop-of-length-le}
-use lib.Seq.{drop-cons, take-length, take-suc, set-at, length-take-le}
+use native.Mathlib.Nat.{add-zero, mul-le-mul-left, le-div-iff-mul-le, div-lt-iff-lt-mul}
+use lib.ListN.{length, take, drop, getD, set, length-append, length-drop, length-map, drop-of-length-le, replicate, length-reverse}
+use lib.Seq.{drop-cons, take-length, take-suc, take-at, drop-at, set-at, length-take-le}
 use lib.Dec.{leb, ltb, eqb, leb·zero}
-use borrow.Author.Tests.{lt-ltb, le-ltb, le-leb, lt-leb, eq-eqb, ne-eqb, ltb-true}
+use borrow.Author.Tests.{lt-ltb, le-ltb, le-leb, lt-leb, eq-eqb, ne-eqb, ltb-true, leb-true, leb-false}
 use Rattle.codec.specs.Cases.{pick}
 use Rattle.codec.specs.Buffer.{over}
-use Rattle.hex.specs.Hex.{digit, values, below, pairs, without, unblanked, isDash, hexMeans, digitsMean, answered, filled, numeral}
+use Rattle.hex.specs.Hex.{digit, values, below, pairs, without, unblanked, isDash, hexMeans, digitsMean, answered, filled, numeral, numberOf, handleOf, asHandle, Meaning, none, some, typed, typeFrom}
+use Rattle.bytes.specs.Bytes.{rev, slice}
 use Rattle.hex.specs.declared.Hex.the-variants.{Bytes, NotHex, TooLong}
+use Rattle.hex.specs.declared.Number.{Number}
+use Rattle.hex.specs.declared.Number.the-variants.{Is, NotNumber}
+use Rattle.hex.specs.declared.Handle.the-variants.{At, NotHandle}
 use Rattle.hex.specs.declared.Scan.{Scan}
 use Rattle.hex.specs.declared.Scan.the-variants.{Digits, Other}
 
@@ -246,3 +250,136 @@ module _ (text out : List ℕ) where
   pub hex-digits : isDash (unblanked text) ≡ false → hexMeans text ≡ digitsMean (values (unblanked text))
   unfolding hexMeans
   hex-digits e = rw e
+
+-- a number behind what was read of it
+abbrev pub numbered : ℕ → ℕ → ℕ → List ℕ → Number
+numbered base most sofar vs = pick (below base vs && leb (numeral base sofar vs) most) (Is (numeral base sofar vs)) NotNumber
+
+pub number-starts : (base most : ℕ) (word : List ℕ) → 0 < length word → numberOf base most word ≡ numbered base most 0 (values word)
+unfolding numberOf
+number-starts base most word h = rw (lt-ltb 0 (length word) h)
+
+pub number-empty : (base most : ℕ) (word : List ℕ) → length word ≡ 0 → NotNumber ≡ numberOf base most word
+unfolding numberOf
+number-empty base most word h = rw (le-ltb 0 (length word) (omega arith))
+
+pub numeral-grows : (base sofar : ℕ) (vs : List ℕ) → 1 ≤ base → sofar ≤ numeral base sofar vs
+unfolding numeral
+numeral-grows base sofar [] h = omega arith
+numeral-grows base sofar (v ∷ vs) h = omega (arith, numeral-grows base (sofar * base + v) vs h, mul-le-mul-left sofar h)
+
+module _ (base most sofar i : ℕ) (word : List ℕ) (h : i < length word) where
+  next-value : values (drop i word) ≡ digit (getD word i 0) ∷ values (drop (i + 1) word)
+  next-value = ap values (next-character word i h)
+
+  pub number-digit : digit (getD word i 0) < base
+      → numbered base most sofar (values (drop i word)) ≡ numbered base most (sofar * base + digit (getD word i 0)) (values (drop (i + 1) word))
+  unfolding below numeral
+  number-digit k = rw (next-value, lt-ltb (digit (getD word i 0)) base k)
+
+  pub number-other : base ≤ digit (getD word i 0) → numbered base most sofar (values (drop i word)) ≡ NotNumber
+  unfolding below
+  number-other k = rw (next-value, le-ltb (digit (getD word i 0)) base k)
+
+  pub number-over : 1 ≤ base → digit (getD word i 0) < base → most < sofar * base + digit (getD word i 0)
+      → numbered base most sofar (values (drop i word)) ≡ NotNumber
+  number-over b k o =
+      number-digit k
+          ∙ over-most (below base (values (drop (i + 1) word))) _
+          (omega (arith, numeral-grows base (sofar * base + digit (getD word i 0)) (values (drop (i + 1) word)) b))
+    where
+      over-most : (t : Bool) (n : ℕ) → most < n → pick (t && leb n most) (Is n) NotNumber ≡ NotNumber
+      over-most true n p = rw (lt-leb n most p)
+      over-most false n p = refl
+
+pub number-ends : (base most sofar i : ℕ) (word : List ℕ) → length word ≤ i → sofar ≤ most → numbered base most sofar (values (drop i word)) ≡ Is sofar
+unfolding below numeral
+number-ends base most sofar i word h k = rw (drop-of-length-le word h, le-leb sofar most k)
+
+-- the test before a digit more, by a division that cannot pass the limit
+pub fits-div : (base most sofar d : ℕ) → 1 ≤ base → sofar ≤ (most - d) / base → d ≤ most → sofar * base + d ≤ most
+fits-div base most sofar d b h k = omega (arith, le-div-iff-mul-le {k = base} {x = sofar} {y = most - d} b .0 h)
+
+pub over-div : (base most sofar d : ℕ) → 1 ≤ base → (most - d) / base < sofar → most < sofar * base + d
+over-div base most sofar d b h = omega (arith, div-lt-iff-lt-mul {k = base} {x = most - d} {y = sofar} b .0 h)
+
+pub number-bounded : (base most : ℕ) (word : List ℕ) (n : ℕ) → numberOf base most word ≡ Is n → n ≤ most
+unfolding numberOf
+number-bounded base most word n e = bounded (ltb 0 (length word) && below base (values word)) (numeral base 0 (values word)) e
+  where
+    bounded : (t : Bool) (m : ℕ) → pick (t && leb m most) (Is m) NotNumber ≡ Is n → n ≤ most
+    bounded true m p = tested (leb m most) refl p
+      where
+        tested : (u : Bool) → leb m most ≡ u → pick u (Is m) NotNumber ≡ Is n → n ≤ most
+        tested true q r = let s : m ≡ n = cc in omega (arith, leb-true m most q)
+        tested false q r = absurd (let z : _≡_ {A = ℕ} 0 1 = cc in omega arith)
+    bounded false m p = absurd (let z : _≡_ {A = ℕ} 0 1 = cc in omega arith)
+
+module _ (word : List ℕ) where
+  pub handle-length : (length word ≡ 4 → ⊥) → NotHandle ≡ handleOf word
+  unfolding handleOf
+  handle-length h = rw (ne-eqb (length word) 4 h)
+
+  pub handle-as : length word ≡ 4 → (r : Number) → numberOf 16 65535 word ≡ r → asHandle r ≡ handleOf word
+  unfolding handleOf
+  handle-as h r e = rw (eq-eqb (length word) 4 h, e)
+
+-- a meaning is bytes, this many and at most sixteen
+abbrev Sized : Meaning → ℕ → Type 0
+Sized none k = ⊥
+Sized (some bytes) k = (length bytes ≡ k) × (length bytes ≤ 16)
+
+-- what decoding into sixteen bytes answered, taken apart
+taken-apart : (m : Meaning) (k : ℕ) → answered m 16 ≡ Bytes k → Sized m k
+taken-apart none k e = absurd (let z : _≡_ {A = ℕ} 0 1 = cc in omega arith)
+taken-apart (some bytes) k e = sized (leb (length bytes) 16) refl e
+  where
+    sized : (t : Bool) → leb (length bytes) 16 ≡ t → pick t (Bytes (length bytes)) TooLong ≡ Bytes k → (length bytes ≡ k) × (length bytes ≤ 16)
+    sized true q r = (cc, leb-true (length bytes) 16 q)
+    sized false q r = absurd (let z : _≡_ {A = ℕ} 0 1 = cc in omega arith)
+
+module _ (n : ℕ) (m : Meaning) where
+  pub type-not : NotHex ≡ answered m 16 → typed [] ≡ typeFrom n m
+  type-not e = no m e
+    where
+      no : (w : Meaning) → NotHex ≡ answered w 16 → typed [] ≡ typeFrom n w
+      no none p = refl
+      no (some bytes) p = absurd (never (leb (length bytes) 16) p)
+        where
+          never : (t : Bool) → NotHex ≡ pick t (Bytes (length bytes)) TooLong → ⊥
+          never true q = let z : _≡_ {A = ℕ} 0 1 = cc in omega arith
+          never false q = let z : _≡_ {A = ℕ} 0 1 = cc in omega arith
+
+  pub type-long : n ≤ 16 → TooLong ≡ answered m 16 → typed [] ≡ typeFrom n m
+  type-long h e = no m e
+    where
+      no : (w : Meaning) → TooLong ≡ answered w 16 → typed [] ≡ typeFrom n w
+      no none p = refl
+      no (some bytes) p = by (leb (length bytes) 16) refl p
+        where
+          by : (t : Bool) → leb (length bytes) 16 ≡ t → TooLong ≡ pick t (Bytes (length bytes)) TooLong → typed [] ≡ typeFrom n (some bytes)
+          by true q r = absurd (let z : _≡_ {A = ℕ} 0 1 = cc in omega arith)
+          by false q r = rw (ne-eqb (length bytes) n (λ s. omega (arith, leb-false (length bytes) 16 q)))
+
+  pub type-other : (k : ℕ) → Bytes k ≡ answered m 16 → (k ≡ n → ⊥) → typed [] ≡ typeFrom n m
+  type-other k e h = no m (taken-apart m k (sym e))
+    where
+      no : (w : Meaning) → Sized w k → typed [] ≡ typeFrom n w
+      no none p = refl
+      no (some bytes) p = rw (ne-eqb (length bytes) n (λ s. h (sym (p .0) ∙ s)))
+
+  pub type-is : (k : ℕ) → Bytes k ≡ answered m 16 → k ≡ n → (big little : List ℕ) → big ≡ filled m (replicate 16 0)
+      → little ≡ take 0 big ++ (rev (slice 0 n big) ++ drop n big) → record { len = n; bytes = little } ≡ typeFrom n m
+  unfolding rev slice
+  type-is k e h big little b l = is m (taken-apart m k (sym e)) b
+    where
+      is : (w : Meaning) → Sized w k → big ≡ filled w (replicate 16 0) → record { len = n; bytes = little } ≡ typeFrom n w
+      is none p q = absurd p
+      is (some bytes) p q =
+          let z : List ℕ = replicate 16 0 in
+          let o : big ≡ bytes ++ drop (length bytes) z = q ∙ rw (le-leb (length bytes) 16 (p .1)) in
+          let s : length bytes ≡ n = p .0 ∙ h in
+          let t : take n big ≡ bytes = rw o (take-at bytes (drop (length bytes) z) n s) in
+          let d : drop n big ≡ drop (length bytes) z = rw o (drop-at bytes (drop (length bytes) z) n s) in
+          let y : little ≡ reverse bytes ++ drop (length (reverse bytes)) z = l ∙ rw (t, d, length-reverse bytes) in
+          rw (eq-eqb (length bytes) n s, y, ← s)

@@ -2,9 +2,11 @@
 ghost use Prim.Native.Nat.{_≤_, _<_};
 ghost use mathlib.Core.Path.{_≡_};
 ghost use mathlib.Core.Bool.{true};
+ghost use mathlib.Core.List.{[]};
 ghost use lib.ListN.{length};
 ghost use Rattle.codec.specs.Buffer.{over};
 ghost use Rattle.hex.specs.Hex.{values, below, pairs, without, unblanked, isDash, hexMeans, answered, filled, digitsMean};
+ghost use Rattle.hex.specs.Hex.{numberOf, decimalOf, handleOf, outline as Hex·outline, typeOf, typed};
 ghost use Rattle.hex.specs.Hex.{digit as Hex·digit};
 ghost use Rattle.hex.specs.HexLaws.{scanned, Skipped};
 
@@ -18,6 +20,18 @@ pub enum Hex {
 pub enum Number {
     Is(u64),
     NotNumber,
+}
+
+pub enum Handle {
+    At(u16),
+    NotHandle,
+}
+
+// A type's bytes, the least significant first, with 00 behind them: 2, 4 or 16 of them, and 0 where
+// a word is no type.
+pub struct TypeRead {
+    pub len: usize,
+    pub bytes: [u8; 16],
 }
 
 // How many digits a text has, where it has nothing else.
@@ -138,4 +152,114 @@ pub fn read_hex(text: &[u8], out: &mut [u8]) -> Hex
         return Hex::Bytes(0);
     }
     decode(text, 32, 9, out)
+}
+
+fn wide(x: u8) -> u64
+    ensures { λ r. ⌜ r ≡ x ⌝ }
+{
+    x as u64
+}
+
+// A number in a base, of one digit or more and at most `most`.
+fn read_number(word: &[u8], base: u64, most: u64) -> Number
+    requires { ⌜ 1 ≤ base ⌝ }
+    ensures { λ r. ⌜ r ≡ numberOf base most (now (word .entry)) ⌝ }
+{
+    if word.len() == 0 {
+        return Number::NotNumber;
+    }
+    let mut v: u64 = 0;
+    let mut i = 0;
+    while i < word.len() {
+        let d = wide(digit(word[i]));
+        if base <= d {
+            return Number::NotNumber;
+        }
+        if most < d {
+            return Number::NotNumber;
+        }
+        if (most - d) / base < v {
+            return Number::NotNumber;
+        }
+        v = v * base + d;
+        i += 1;
+    }
+    Number::Is(v)
+}
+
+// N: a decimal number that fits 64 bits.
+pub fn read_decimal(word: &[u8]) -> Number
+    ensures { λ r. ⌜ r ≡ decimalOf (now (word .entry)) ⌝ }
+{
+    read_number(word, 10, 18446744073709551615)
+}
+
+// HANDLE: 4 hexadecimal digits.
+pub fn read_handle(word: &[u8]) -> Handle
+    ensures { λ r. ⌜ r ≡ handleOf (now (word .entry)) ⌝ }
+{
+    if word.len() != 4 {
+        return Handle::NotHandle;
+    }
+    match read_number(word, 16, 65535) {
+        Number::Is(n) => Handle::At(n as u16),
+        Number::NotNumber => Handle::NotHandle,
+    }
+}
+
+// How many bytes a type of this outline has.
+fn outline(word: &[u8]) -> usize
+    ensures { λ r. ⌜ r ≡ Hex·outline (now (word .entry)) ⌝ }
+    ensures { λ r. ⌜ r ≤ 16 ⌝ }
+{
+    if word.len() == 4 {
+        return 2;
+    }
+    if word.len() == 8 {
+        return 4;
+    }
+    if word.len() != 36 {
+        return 0;
+    }
+    if word[8] != 45 {
+        return 0;
+    }
+    if word[13] != 45 {
+        return 0;
+    }
+    if word[18] != 45 {
+        return 0;
+    }
+    if word[23] != 45 {
+        return 0;
+    }
+    16
+}
+
+fn no_type() -> TypeRead
+    ensures { λ r. ⌜ r ≡ typed [] ⌝ }
+{
+    TypeRead {
+        len: 0,
+        bytes: [0u8; 16],
+    }
+}
+
+// TYPE: 4 or 8 hexadecimal digits, or the usual form of a 128-bit UUID.
+pub fn read_type(word: &[u8]) -> TypeRead
+    ensures { λ r. ⌜ r ≡ typeOf (now (word .entry)) ⌝ }
+{
+    let n = outline(word);
+    let mut big = [0u8; 16];
+    match decode(word, 45, 45, &mut big) {
+        Hex::Bytes(k) => {
+            if k != n {
+                return no_type();
+            }
+            bytes::reverse(&mut big, 0, n);
+            TypeRead { len: n, bytes: big }
+        }
+        Hex::NotHex => no_type(),
+        Hex::TooLong => no_type(),
+    }
 }
