@@ -4,16 +4,17 @@
 use Prim.Native.Nat.{ℕ, _+_, _-_, _*_, _%_}
 use mathlib.Core.Bool.{Bool, true, false, _&&_, _||_}
 use mathlib.Core.List.{List, [], _∷_, map}
-use lib.ListN.{length, getD, replicate}
+use lib.ListN.{length, getD}
 use lib.Dec.{leb, ltb, eqb}
 use Rattle.codec.specs.Cases.{pick}
-use Rattle.codec.specs.Buffer.{over, laid}
+use Rattle.codec.specs.Buffer.{laid}
 use Rattle.bytes.specs.Bytes.{rev}
+use Rattle.uuid.specs.Uuids.{sliced}
+use Rattle.uuid.specs.declared.Sliced.{Sliced}
 use Rattle.hex.specs.declared.Hex.{Hex}
 use Rattle.hex.specs.declared.Hex.the-variants.{Bytes, NotHex, TooLong}
 use Rattle.hex.specs.declared.Handle.{Handle}
 use Rattle.hex.specs.declared.Handle.the-variants.{At, NotHandle}
-use Rattle.hex.specs.declared.TypeRead.{TypeRead}
 use Rattle.hex.specs.declared.Number.{Number}
 use Rattle.hex.specs.declared.Number.the-variants.{Is, NotNumber}
 
@@ -107,13 +108,14 @@ outline word =
     (pick (eqb (length word) 8) 4
     (pick (eqb (length word) 36) (pick (hyphened word) 16 0) 0))
 
--- sixteen bytes: those of the type, the least significant first, and 00 behind them
-abbrev pub typed : List ℕ → TypeRead
-typed bytes = record { len = length bytes; bytes = over (rev bytes) (replicate 16 0) }
+-- the bytes of a type, the least significant first; none where a word is no type
+abbrev pub typeFrom : ℕ → Meaning → List ℕ
+typeFrom n none = []
+typeFrom n (some bytes) = pick (eqb (length bytes) n) (rev bytes) []
 
-abbrev pub typeFrom : ℕ → Meaning → TypeRead
-typeFrom n none = typed []
-typeFrom n (some bytes) = pick (eqb (length bytes) n) (typed bytes) (typed [])
+unfoldable pub typeBytes : List ℕ → List ℕ
+typeBytes word = typeFrom (outline word) (digitsMean (values (without 45 45 word)))
 
-unfoldable pub typeOf : List ℕ → TypeRead
-typeOf word = typeFrom (outline word) (digitsMean (values (without 45 45 word)))
+-- as a UUID: no bytes are refused as one
+abbrev pub typeOf : List ℕ → Sliced
+typeOf word = sliced (typeBytes word)

@@ -7,12 +7,14 @@ use native.Mathlib.Omega.{arith}
 use native.Mathlib.Numerals.{add-one}
 use native.Mathlib.Nat.{add-zero, mul-le-mul-left, le-div-iff-mul-le, div-lt-iff-lt-mul}
 use lib.ListN.{length, take, drop, getD, set, length-append, length-drop, length-map, drop-of-length-le, replicate, length-reverse}
-use lib.Seq.{drop-cons, take-length, take-suc, take-at, drop-at, set-at, length-take-le}
+use lib.Seq.{drop-cons, take-length, take-suc, take-at, drop-at, set-at, length-take-le, take-append-seam}
 use lib.Dec.{leb, ltb, eqb, leb·zero}
 use borrow.Author.Tests.{lt-ltb, le-ltb, le-leb, lt-leb, eq-eqb, ne-eqb, ltb-true, leb-true, leb-false}
 use Rattle.codec.specs.Cases.{pick}
 use Rattle.codec.specs.Buffer.{over}
-use Rattle.hex.specs.Hex.{digit, values, below, pairs, without, unblanked, isDash, hexMeans, digitsMean, answered, filled, numeral, numberOf, handleOf, asHandle, Meaning, none, some, typed, typeFrom}
+use Rattle.hex.specs.Hex.{digit, values, below, pairs, without, unblanked, isDash, hexMeans, digitsMean, answered, filled, numeral, numberOf, handleOf, asHandle, Meaning, none, some, typeFrom}
+use Rattle.uuid.specs.Uuids.{rawOf}
+use Rattle.uuid.specs.declared.Raw.{Raw}
 use Rattle.bytes.specs.Bytes.{rev, slice}
 use Rattle.hex.specs.declared.Hex.the-variants.{Bytes, NotHex, TooLong}
 use Rattle.hex.specs.declared.Number.{Number}
@@ -339,10 +341,10 @@ taken-apart (some bytes) k e = sized (leb (length bytes) 16) refl e
     sized false q r = absurd (let z : _≡_ {A = ℕ} 0 1 = cc in omega arith)
 
 module _ (n : ℕ) (m : Meaning) where
-  pub type-not : NotHex ≡ answered m 16 → typed [] ≡ typeFrom n m
+  pub type-not : NotHex ≡ answered m 16 → rawOf [] ≡ rawOf (typeFrom n m)
   type-not e = no m e
     where
-      no : (w : Meaning) → NotHex ≡ answered w 16 → typed [] ≡ typeFrom n w
+      no : (w : Meaning) → NotHex ≡ answered w 16 → rawOf [] ≡ rawOf (typeFrom n w)
       no none p = refl
       no (some bytes) p = absurd (never (leb (length bytes) 16) p)
         where
@@ -350,30 +352,30 @@ module _ (n : ℕ) (m : Meaning) where
           never true q = let z : _≡_ {A = ℕ} 0 1 = cc in omega arith
           never false q = let z : _≡_ {A = ℕ} 0 1 = cc in omega arith
 
-  pub type-long : n ≤ 16 → TooLong ≡ answered m 16 → typed [] ≡ typeFrom n m
+  pub type-long : n ≤ 16 → TooLong ≡ answered m 16 → rawOf [] ≡ rawOf (typeFrom n m)
   type-long h e = no m e
     where
-      no : (w : Meaning) → TooLong ≡ answered w 16 → typed [] ≡ typeFrom n w
+      no : (w : Meaning) → TooLong ≡ answered w 16 → rawOf [] ≡ rawOf (typeFrom n w)
       no none p = refl
       no (some bytes) p = by (leb (length bytes) 16) refl p
         where
-          by : (t : Bool) → leb (length bytes) 16 ≡ t → TooLong ≡ pick t (Bytes (length bytes)) TooLong → typed [] ≡ typeFrom n (some bytes)
+          by : (t : Bool) → leb (length bytes) 16 ≡ t → TooLong ≡ pick t (Bytes (length bytes)) TooLong → rawOf [] ≡ rawOf (typeFrom n (some bytes))
           by true q r = absurd (let z : _≡_ {A = ℕ} 0 1 = cc in omega arith)
           by false q r = rw (ne-eqb (length bytes) n (λ s. omega (arith, leb-false (length bytes) 16 q)))
 
-  pub type-other : (k : ℕ) → Bytes k ≡ answered m 16 → (k ≡ n → ⊥) → typed [] ≡ typeFrom n m
+  pub type-other : (k : ℕ) → Bytes k ≡ answered m 16 → (k ≡ n → ⊥) → rawOf [] ≡ rawOf (typeFrom n m)
   type-other k e h = no m (taken-apart m k (sym e))
     where
-      no : (w : Meaning) → Sized w k → typed [] ≡ typeFrom n w
+      no : (w : Meaning) → Sized w k → rawOf [] ≡ rawOf (typeFrom n w)
       no none p = refl
       no (some bytes) p = rw (ne-eqb (length bytes) n (λ s. h (sym (p .0) ∙ s)))
 
   pub type-is : (k : ℕ) → Bytes k ≡ answered m 16 → k ≡ n → (big little : List ℕ) → big ≡ filled m (replicate 16 0)
-      → little ≡ take 0 big ++ (rev (slice 0 n big) ++ drop n big) → record { len = n; bytes = little } ≡ typeFrom n m
+      → little ≡ take 0 big ++ (rev (slice 0 n big) ++ drop n big) → record { bytes = little; len = n } ≡ rawOf (typeFrom n m)
   unfolding rev slice
   type-is k e h big little b l = is m (taken-apart m k (sym e)) b
     where
-      is : (w : Meaning) → Sized w k → big ≡ filled w (replicate 16 0) → record { len = n; bytes = little } ≡ typeFrom n w
+      is : (w : Meaning) → Sized w k → big ≡ filled w (replicate 16 0) → record { bytes = little; len = n } ≡ rawOf (typeFrom n w)
       is none p q = absurd p
       is (some bytes) p q =
           let z : List ℕ = replicate 16 0 in
@@ -382,4 +384,11 @@ module _ (n : ℕ) (m : Meaning) where
           let t : take n big ≡ bytes = rw o (take-at bytes (drop (length bytes) z) n s) in
           let d : drop n big ≡ drop (length bytes) z = rw o (drop-at bytes (drop (length bytes) z) n s) in
           let y : little ≡ reverse bytes ++ drop (length (reverse bytes)) z = l ∙ rw (t, d, length-reverse bytes) in
-          rw (eq-eqb (length bytes) n s, y, ← s)
+          rw (eq-eqb (length bytes) n s, y, length-reverse bytes, ← s)
+
+-- the bytes that count are those that were padded
+pub raw-own : (raw : Raw) (l : List ℕ) → raw ≡ rawOf l → take (raw .len - 0) (drop 0 (raw .bytes)) ≡ l
+raw-own raw l e = rw e (let z : length l - 0 ≡ length l = omega arith in rw z (take-append-seam l (drop (length l) (replicate 16 0))))
+
+pub raw-room : (raw : Raw) (l : List ℕ) → raw ≡ rawOf l → raw .len ≤ length (raw .bytes)
+raw-room raw l e = rw (e, length-append l (drop (length l) (replicate 16 0))) (omega arith)

@@ -1,4 +1,6 @@
 // What a person types for bytes, numbers and types.
+use uuid::Raw;
+use uuid::Sliced;
 ghost use Prim.Native.Nat.{_≤_, _<_};
 ghost use mathlib.Core.Path.{_≡_};
 ghost use mathlib.Core.Bool.{true};
@@ -6,7 +8,8 @@ ghost use mathlib.Core.List.{[]};
 ghost use lib.ListN.{length};
 ghost use Rattle.codec.specs.Buffer.{over};
 ghost use Rattle.hex.specs.Hex.{values, below, pairs, without, unblanked, isDash, hexMeans, answered, filled, digitsMean};
-ghost use Rattle.hex.specs.Hex.{numberOf, decimalOf, handleOf, outline as Hex·outline, typeOf, typed};
+ghost use Rattle.hex.specs.Hex.{numberOf, decimalOf, handleOf, outline as Hex·outline, typeBytes, typeOf};
+ghost use Rattle.uuid.specs.Uuids.{rawOf};
 ghost use Rattle.hex.specs.Hex.{digit as Hex·digit};
 ghost use Rattle.hex.specs.HexLaws.{scanned, Skipped};
 
@@ -25,13 +28,6 @@ pub enum Number {
 pub enum Handle {
     At(u16),
     NotHandle,
-}
-
-// A type's bytes, the least significant first, with 00 behind them: 2, 4 or 16 of them, and 0 where
-// a word is no type.
-pub struct TypeRead {
-    pub len: usize,
-    pub bytes: [u8; 16],
 }
 
 // How many digits a text has, where it has nothing else.
@@ -236,18 +232,18 @@ fn outline(word: &[u8]) -> usize
     16
 }
 
-fn no_type() -> TypeRead
-    ensures { λ r. ⌜ r ≡ typed [] ⌝ }
+fn no_type() -> Raw
+    ensures { λ r. ⌜ r ≡ rawOf [] ⌝ }
 {
-    TypeRead {
-        len: 0,
+    Raw {
         bytes: [0u8; 16],
+        len: 0,
     }
 }
 
-// TYPE: 4 or 8 hexadecimal digits, or the usual form of a 128-bit UUID.
-pub fn read_type(word: &[u8]) -> TypeRead
-    ensures { λ r. ⌜ r ≡ typeOf (now (word .entry)) ⌝ }
+// The bytes of a type, the least significant first; none where a word is no type.
+fn type_bytes(word: &[u8]) -> Raw
+    ensures { λ r. ⌜ r ≡ rawOf (typeBytes (now (word .entry))) ⌝ }
 {
     let n = outline(word);
     let mut big = [0u8; 16];
@@ -257,9 +253,19 @@ pub fn read_type(word: &[u8]) -> TypeRead
                 return no_type();
             }
             bytes::reverse(&mut big, 0, n);
-            TypeRead { len: n, bytes: big }
+            Raw { bytes: big, len: n }
         }
         Hex::NotHex => no_type(),
         Hex::TooLong => no_type(),
     }
+}
+
+// TYPE: 4 or 8 hexadecimal digits, or the usual form of a 128-bit UUID; any other word is refused.
+pub fn read_type(word: &[u8]) -> Sliced
+    ensures { λ r. ⌜ r ≡ typeOf (now (word .entry)) ⌝ }
+{
+    let raw = type_bytes(word);
+    let n = raw.len;
+    let all = raw.bytes;
+    uuid::from_slice(&all[0..n])
 }

@@ -1,117 +1,46 @@
--- `hex::read_type` meets its contract: each answer of `decode` has its law, over the number of bytes that the outline asks for.
-use Prim.Native.Nat.{ℕ}
-use mathlib.Core.Path.{_≡_, sym, ap, _∙_}
-use native.Mathlib.Omega.{arith}
-use Rattle.hex.specs.Hex.{without, values, digitsMean, typeFrom, typeOf, Meaning}
-use Rattle.hex.specs.HexLaws.{type-not, type-long, type-other, type-is}
+-- `hex::read_type` meets its contract: the bytes that `type_bytes` padded are those that `from_slice` is handed.
+use mathlib.Core.Path.{ap, _∙_}
+use Rattle.uuid.specs.Uuids.{sliced}
+use Rattle.hex.specs.HexLaws.{raw-own, raw-room}
 use borrow.Author.Needs.{needs}
 use Rattle.hex.proofs.read_type.Statement.{statement}
 use Rattle.hex.proofs.read_type.Tie as tie
 use Rattle.hex.proofs.read_type.Reads as reads
 use Rattle.hex.proofs.read_type.Lts as lts
-use Rattle.bytes.proofs.reverse.Reads as reverse-reads
-use Rattle.hex.proofs.decode.Reads as decode-reads
-use Rattle.hex.proofs.no_type.Reads as no-type-reads
-use Rattle.hex.proofs.outline.Reads as outline-reads
+use Rattle.hex.proofs.type_bytes.Reads as type-bytes-reads
+use Rattle.uuid.proofs.from_slice.Reads as from-slice-reads
 
--- what the word's digits mean, and the number of bytes that its outline asks for
-abbrev means : tie.After-decode → Meaning
-means d = digitsMean (values (without 45 45 (d .before .before .before .before .args .word .now)))
+-- src/lib.rt:269:9
+type-bytes-requires : tie.Need-type-bytes-requires
+type-bytes-requires c κs = search needs
 
-abbrev asked : tie.After-decode → ℕ
-asked d = d .before .before .outline .result
+-- src/lib.rt:272:22
+sub-from-slice : tie.Need-sub-from-slice
+sub-from-slice c = search needs
 
-answer : (d : tie.After-decode) → typeFrom (asked d) (means d) ≡ typeOf (d .before .before .before .before .args .word .now)
-unfolding typeOf
-answer d = ap (λ (n : ℕ). typeFrom n (means d)) (d .before .before .outline .ensures .0)
+-- src/lib.rt:272:22
+part-from-slice-start : tie.Need-part-from-slice-start
+part-from-slice-start c = search needs
 
--- src/lib.rt:252:9
-outline-requires : tie.Need-outline-requires
-outline-requires c κs = search needs
+-- src/lib.rt:272:22
+part-from-slice-end : tie.Need-part-from-slice-end
+part-from-slice-end c = raw-room _ _ (c .before .before .type-bytes .ensures)
 
--- src/lib.rt:254:32
-slice-aggregate-decode : tie.Need-slice-aggregate-decode
-slice-aggregate-decode c = search needs
+-- src/lib.rt:272:5
+from-slice-requires : tie.Need-from-slice-requires
+from-slice-requires c κs = search needs
 
--- src/lib.rt:254:11
-decode-requires : tie.Need-decode-requires
-decode-requires c κs = search needs
-
--- src/lib.rt:255:20
-enum-known-k : tie.Need-enum-known-k
-enum-known-k c = search needs
-
--- src/lib.rt:257:17
-no-type-requires : tie.Need-no-type-requires
-no-type-requires c κs = search needs
-
--- src/lib.rt:257:17
+-- src/lib.rt:266:1
 returns : tie.Need-returns
-returns c = 
-    let k = c .before .before .before in
-    let d = k .before .before .before in
-    c .no-type .ensures ∙ type-other (asked d) (means d) _ (sym (k .k .given .1) ∙ d .decode .ensures .0) (c .before .if1 .taken) ∙ answer d
-
--- src/lib.rt:259:28
-slice-aggregate-reverse : tie.Need-slice-aggregate-reverse
-slice-aggregate-reverse c = search needs
-
--- src/lib.rt:259:13
-reverse-requires : tie.Need-reverse-requires
-reverse-requires c κs = search needs
-
--- src/lib.rt:262:24
-enum-told : tie.Need-enum-told
-enum-told c = search needs
-
--- src/lib.rt:262:24
-no-type-requires-2 : tie.Need-no-type-requires-2
-no-type-requires-2 c κs = search needs
-
--- src/lib.rt:263:25
-enum-told-2 : tie.Need-enum-told-2
-enum-told-2 c = search needs
-
--- src/lib.rt:263:25
-no-type-requires-3 : tie.Need-no-type-requires-3
-no-type-requires-3 c κs = search needs
-
--- src/lib.rt:249:1
-returns-2 : tie.Need-returns-2
-returns-2 c = 
-    let e = c .before .before .before in
-    let k = e .before .before in
-    let d = k .before .before .before in
-    type-is (asked d) (means d) _ (sym (k .k .given .1) ∙ d .decode .ensures .0) (e .if1 .left) _ _ (d .decode .ensures .1) (c .before .reverse .ensures) ∙ answer d
-
--- src/lib.rt:249:1
-returns-3 : tie.Need-returns-3
-returns-3 c = 
-    let d = c .before .before .before .before in
-    c .no-type2 .ensures ∙ type-not (asked d) (means d) (sym (c .before .enum-told .given .1) ∙ d .decode .ensures .0) ∙ answer d
-
--- src/lib.rt:249:1
-returns-4 : tie.Need-returns-4
-returns-4 c = 
-    let d = c .before .before .before .before in
-    c .no-type3 .ensures ∙ type-long (asked d) (means d) (d .before .before .outline .ensures .1) (sym (c .before .enum-told2 .given .1) ∙ d .decode .ensures .0) ∙ answer d
+returns c = c .from-slice .ensures ∙ ap sliced (raw-own _ _ (c .before .before .before .before .type-bytes .ensures))
 
 pub read-type-spec : {M : Type 1} → statement M
 read-type-spec =
     tie.close
     (tie.spec
-    outline-requires
-    slice-aggregate-decode
-    decode-requires
-    enum-known-k
-    no-type-requires
-    returns
-    slice-aggregate-reverse
-    reverse-requires
-    enum-told
-    no-type-requires-2
-    enum-told-2
-    no-type-requires-3
-    returns-2
-    returns-3
-    returns-4)
+    type-bytes-requires
+    sub-from-slice
+    part-from-slice-start
+    part-from-slice-end
+    from-slice-requires
+    returns)
