@@ -2,11 +2,11 @@
 use Prim.Native.Nat.{ℕ, zero, suc, _+_, _-_, _*_, _/_, _%_, _^_, _≤_, _<_}
 use mathlib.Core.Path.{_≡_, refl, sym, ap, subst, _∙_}
 use mathlib.Core.Bool.{Bool, true, false}
-use mathlib.Core.List.{List, [], _∷_, _++_, append-assoc, append-nil}
+use mathlib.Core.List.{List, [], _∷_, _++_, reverse, append-assoc, append-nil}
 use native.Mathlib.Omega.{arith}
 use native.Mathlib.Numerals.{add-one}
 use native.Mathlib.Nat.{pow-zero, pow-suc, one-le-pow, pow-le-pow-right, le-div-iff-mul-le, div-lt-iff-lt-mul}
-use lib.ListN.{length, take, drop, getD, set, length-append, length-drop, length-take, take-append-drop}
+use lib.ListN.{length, take, drop, getD, set, length-append, length-drop, length-take, take-append-drop, length-reverse, replicate}
 use lib.Seq.{take-at, drop-at, drop-drop, drop-cons, take-suc, take-length, sets-eq, length-take-le}
 use lib.Dec.{leb}
 use borrow.Author.Tests.{le-leb, lt-leb, lt-ltb, le-ltb, leb-true, leb-false}
@@ -14,7 +14,11 @@ use Rattle.codec.specs.Cases.{pick}
 use Rattle.codec.specs.Buffer.{over, overAt, laidAt}
 use Rattle.codec.specs.BufferLaws.{laid-at, kept-at}
 use Rattle.io.specs.Digits.{Fewest, digits}
-use Rattle.print.specs.Print.{placed, glyph, two, capitals, hexText, width, decimalText}
+use Rattle.print.specs.Print.{placed, glyph, two, capitals, hexText, width, decimalText, usualText}
+use Rattle.bytes.specs.Bytes.{rev, slice}
+use Rattle.uuid.specs.Uuids.{own, widthOf}
+use Rattle.uuid.specs.UuidsLaws.{width-most}
+use Rattle.uuid.specs.declared.Uuid.{Uuid}
 
 -- a text does not fit, or it does: the answer, and what the line then holds
 pub full : (pos : ℕ) (text out : List ℕ) → length out < pos + length text
@@ -159,3 +163,36 @@ decimal-is n (suc (suc k)) h w =
 -- a copy of a whole text
 pub copied-over : (src dst w : List ℕ) → w ≡ take (length src) src ++ drop (length src) dst → w ≡ over src dst
 copied-over src dst w e = e ∙ rw (take-length src)
+
+-- a UUID's own bytes, turned round in their array
+module _ (u : Uuid) (n : ℕ) (w : n ≡ widthOf (u .form)) (f : length (u .bytes) ≡ 16) where
+  pub own-inside : n ≤ length (u .bytes)
+  own-inside = omega (arith, width-most (u .form))
+
+  turned : length (reverse (take n (u .bytes))) ≡ n
+  turned = length-reverse (take n (u .bytes)) ∙ length-take-le n (u .bytes) own-inside
+
+  module _ (big : List ℕ) (e : big ≡ take 0 (u .bytes) ++ (rev (slice 0 n (u .bytes)) ++ drop n (u .bytes))) where
+    pub turned-inside : n ≤ length big
+    unfolding rev slice
+    turned-inside = rw (e, length-append (reverse (take n (u .bytes))) (drop n (u .bytes)), turned) (omega arith)
+
+    pub turned-own : take (n - 0) (drop 0 big) ≡ rev (own u)
+    unfolding rev slice
+    turned-own =
+        let z : n - 0 ≡ n = omega arith in
+        rw (z, e) (take-at (reverse (take n (u .bytes))) (drop n (u .bytes)) n turned ∙ ap (λ (k : ℕ). reverse (take k (u .bytes))) w)
+
+    pub turned-wide : widthOf (u .form) ≤ length (take (n - 0) (drop 0 big))
+    turned-wide = let z : n - 0 ≡ n = omega arith in rw (z, length-take-le n big turned-inside) (omega (arith, w))
+
+-- the stores of the usual form, one over the other
+pub usual-stores : (b l₁ l₂ l₃ l₄ l₅ : List ℕ) → l₁ ≡ laidAt 0 (capitals (take 4 b)) (replicate 36 45)
+    → l₂ ≡ laidAt 9 (capitals (take 2 (drop 4 b))) l₁ → l₃ ≡ laidAt 14 (capitals (take 2 (drop 6 b))) l₂
+    → l₄ ≡ laidAt 19 (capitals (take 2 (drop 8 b))) l₃ → l₅ ≡ laidAt 24 (capitals (take 6 (drop 10 b))) l₄ → l₅ ≡ usualText b
+usual-stores b l₁ l₂ l₃ l₄ l₅ e₁ e₂ e₃ e₄ e₅ =
+    e₅
+        ∙ ap (laidAt 24 (capitals (take 6 (drop 10 b))))
+        (e₄
+            ∙ ap (laidAt 19 (capitals (take 2 (drop 8 b))))
+            (e₃ ∙ ap (laidAt 14 (capitals (take 2 (drop 6 b)))) (e₂ ∙ ap (laidAt 9 (capitals (take 2 (drop 4 b)))) e₁)))

@@ -1,12 +1,15 @@
 // Texts at a position of a lent line. Each function answers the position behind its text; where the
 // text does not fit, the line stays as it was and the answer is the largest number, at which nothing
 // more fits.
+use uuid::Form;
+use uuid::Uuid;
 ghost use Prim.Native.Nat.{_+_, _/_, _%_, _≤_, _<_};
 ghost use mathlib.Core.Path.{_≡_};
 ghost use mathlib.Core.List.{[], _∷_};
 ghost use lib.ListN.{length};
 ghost use Rattle.codec.specs.Buffer.{overAt, laidAt};
-ghost use Rattle.print.specs.Print.{placed, two, capitals, hexText, decimalText};
+ghost use Rattle.print.specs.Print.{placed, two, capitals, hexText, decimalText, usualText, typeBy, typeText};
+ghost use Rattle.uuid.specs.Uuids.{widthOf};
 ghost use Rattle.print.specs.Print.{glyph as Print·glyph};
 
 // A fixed text.
@@ -100,4 +103,46 @@ pub fn decimal(out: &mut [u8], pos: usize, n: u64) -> usize
     let mut spelt = [0u8; 20];
     let k = io::decimal(n, &mut spelt);
     text(out, pos, &spelt[..k])
+}
+
+// The usual form of a 128-bit UUID.
+fn usual(big: &[u8]) -> [u8; 36]
+    requires { ⌜ 16 ≤ length (now big) ⌝ }
+    ensures { λ r. ⌜ r ≡ usualText (now (big .entry)) ⌝ }
+{
+    let mut line = [45u8; 36];
+    digits(&mut line, 0, &big[0..4]);
+    digits(&mut line, 9, &big[4..6]);
+    digits(&mut line, 14, &big[6..8]);
+    digits(&mut line, 19, &big[8..10]);
+    digits(&mut line, 24, &big[10..16]);
+    line
+}
+
+// A type's bytes, the most significant first, in the form that the type is printed in.
+fn spell(out: &mut [u8], pos: usize, form: Form, big: &[u8]) -> usize
+    requires { ⌜ widthOf form ≤ length (now big) ⌝ }
+    ensures { λ r. ⌜ r ≡ placed pos (typeBy form (now (big .entry))) (now (out .entry)) ⌝ }
+    ensures { λ _. ⌜ now (out .exit) ≡ laidAt pos (typeBy form (now (big .entry))) (now (out .entry)) ⌝ }
+{
+    match form {
+        Form::Uuid16 => digits(out, pos, big),
+        Form::Uuid32 => digits(out, pos, big),
+        Form::Uuid128 => {
+            let line = usual(big);
+            text(out, pos, &line)
+        }
+    }
+}
+
+// TYPE.
+pub fn type_text(out: &mut [u8], pos: usize, u: Uuid) -> usize
+    ensures { λ r. ⌜ r ≡ placed pos (typeText u) (now (out .entry)) ⌝ }
+    ensures { λ _. ⌜ now (out .exit) ≡ laidAt pos (typeText u) (now (out .entry)) ⌝ }
+{
+    let form = u.form;
+    let mut big = u.bytes;
+    let n = uuid::width(form);
+    bytes::reverse(&mut big, 0, n);
+    spell(out, pos, form, &big[0..n])
 }
