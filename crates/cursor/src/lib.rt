@@ -50,8 +50,9 @@ pub fn reset() -> usize
     new()
 }
 
-// The length of what was read or written so far: the position.
-pub fn len(pos: usize) -> usize
+// The length of what was read or written so far: the position. Like every call on a cursor it is handed
+// both fields.
+pub fn len(pos: usize, _data: &[u8]) -> usize
     ensures { λ r. ⌜ r ≡ pos ⌝ }
 {
     pos

@@ -1,0 +1,4 @@
+pub mod Cursor
+pub mod Thin
+pub mod ThinN
+pub mod Told
