@@ -287,8 +287,8 @@ module _ (base most sofar i : ℕ) (word : List ℕ) (h : i < length word) where
       → numbered base most sofar (values (drop i word)) ≡ NotNumber
   number-over b k o =
       number-digit k
-          ∙ over-most (below base (values (drop (i + 1) word))) _
-          (omega (arith, numeral-grows base (sofar * base + digit (getD word i 0)) (values (drop (i + 1) word)) b))
+      ∙ over-most (below base (values (drop (i + 1) word))) _
+      (omega (arith, numeral-grows base (sofar * base + digit (getD word i 0)) (values (drop (i + 1) word)) b))
     where
       over-most : (t : Bool) (n : ℕ) → most < n → pick (t && leb n most) (Is n) NotNumber ≡ NotNumber
       over-most true n p = rw (lt-leb n most p)

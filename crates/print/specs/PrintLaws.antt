@@ -94,8 +94,8 @@ printed-more pos bs before out m at i p h e =
     let a : at ≡ pos + length (capitals (take i bs)) = omega (arith, p .here) in
     let o : m ≡ overAt pos (capitals (take (i + 1) bs)) before =
     e
-        ∙ rw (p .put, a) (overAt-append pos (capitals (take i bs)) (two (getD bs i 0)) before (omega (arith, p .room)))
-        ∙ ap (λ (t : List ℕ). overAt pos t before) (capitals-more bs i h) in
+    ∙ rw (p .put, a) (overAt-append pos (capitals (take i bs)) (two (getD bs i 0)) before (omega (arith, p .room)))
+    ∙ ap (λ (t : List ℕ). overAt pos t before) (capitals-more bs i h) in
     record {
       inside = omega arith;
       here = omega (arith, p .here);
@@ -192,7 +192,7 @@ pub usual-stores : (b l₁ l₂ l₃ l₄ l₅ : List ℕ) → l₁ ≡ laidAt 0
     → l₄ ≡ laidAt 19 (capitals (take 2 (drop 8 b))) l₃ → l₅ ≡ laidAt 24 (capitals (take 6 (drop 10 b))) l₄ → l₅ ≡ usualText b
 usual-stores b l₁ l₂ l₃ l₄ l₅ e₁ e₂ e₃ e₄ e₅ =
     e₅
-        ∙ ap (laidAt 24 (capitals (take 6 (drop 10 b))))
-        (e₄
-            ∙ ap (laidAt 19 (capitals (take 2 (drop 8 b))))
-            (e₃ ∙ ap (laidAt 14 (capitals (take 2 (drop 6 b)))) (e₂ ∙ ap (laidAt 9 (capitals (take 2 (drop 4 b)))) e₁)))
+    ∙ ap (laidAt 24 (capitals (take 6 (drop 10 b))))
+    (e₄
+    ∙ ap (laidAt 19 (capitals (take 2 (drop 8 b))))
+    (e₃ ∙ ap (laidAt 14 (capitals (take 2 (drop 6 b)))) (e₂ ∙ ap (laidAt 9 (capitals (take 2 (drop 4 b)))) e₁)))

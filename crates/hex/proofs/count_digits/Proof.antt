@@ -14,7 +14,7 @@ use Rattle.hex.proofs.digit.Reads as digit-reads
 use Rattle.hex.proofs.skip.Reads as skip-reads
 
 abbrev Inv-loop : tie.InvT-loop
-Inv-loop text a b n₀ i₀ n i = 
+Inv-loop text a b n₀ i₀ n i =
     (i ≤ length text)
     × ((n ≤ i)
     × ((i < length text → without a b (drop i text) ≡ getD text i 0 ∷ without a b (drop (i + 1) text))
@@ -29,7 +29,7 @@ skip-requires c κs = omega arith
 
 -- src/lib.rt:65:5
 loop-holds : tie.Need-loop-holds Inv-loop μ-loop
-loop-holds c = 
+loop-holds c =
     let s = c .skip .ensures in
     (s .inside, (omega arith, (s .kept, ap (scanned 0) (sym (s .same)))))
 
@@ -43,12 +43,12 @@ digit-requires c κs = tt
 
 -- src/lib.rt:67:13
 returns : tie.Need-returns Inv-loop μ-loop
-returns c = 
+returns c =
     let l = c .before .before .before .before in
     let a = l .before .before .before .args in
     sym
     (l .loop .inv .1 .1 .1
-        ∙ scanned-other (l .loop .n) _ _ _ (l .loop .inv .1 .1 .0 (omega arith)) (omega arith))
+    ∙ scanned-other (l .loop .n) _ _ _ (l .loop .inv .1 .1 .0 (omega arith)) (omega arith))
 
 -- src/lib.rt:69:9
 add-n : tie.Need-add-n Inv-loop μ-loop
@@ -68,11 +68,10 @@ loop-less c = omega arith
 
 -- src/lib.rt:65:5
 loop-again : tie.Need-loop-again Inv-loop μ-loop
-loop-again c = 
+loop-again c =
     let s = c .skip2 .ensures in
     let l = c .before .before .before .before .before in
-    let a = l .before .before .before .args in
-    (
+    let a = l .before .before .before .args in (
       s .inside,
       (
         omega (arith, s .onward),
@@ -87,7 +86,7 @@ loop-again c =
 
 -- src/lib.rt:60:1
 returns-2 : tie.Need-returns-2 Inv-loop μ-loop
-returns-2 c = 
+returns-2 c =
     let l = c .before in
     let a = l .before .before .before .args in
     sym (l .loop .inv .1 .1 .1 ∙ scanned-none (l .loop .n) (l .loop .i) (a .a) (a .b) (a .text .now) (omega arith))

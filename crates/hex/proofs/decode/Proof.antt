@@ -34,21 +34,21 @@ enum-known-n c = search needs
 
 -- src/lib.rt:121:17
 returns : tie.Need-returns
-returns c = 
+returns c =
     let k = c .before .before in
     let d = k .before .before in
     digits-odd (kept d) (lent d) _ (sym (d .count-digits .ensures) ∙ k .n .given .1) (c .if1 .taken)
 
 -- src/lib.rt:124:17
 returns-2 : tie.Need-returns-2
-returns-2 c = 
+returns-2 c =
     let k = c .before .before .before in
     let d = k .before .before in
     digits-long (kept d) (lent d) _ (sym (d .count-digits .ensures) ∙ k .n .given .1) (c .before .if1 .left) (c .if2 .taken)
 
 -- src/lib.rt:126:13
 fill-requires : tie.Need-fill-requires
-fill-requires c κs = 
+fill-requires c κs =
     let k = c .before .before .before .before in
     let d = k .before .before in
     let e = sym (d .count-digits .ensures) ∙ k .n .given .1 in
@@ -56,7 +56,7 @@ fill-requires c κs =
 
 -- src/lib.rt:113:1
 returns-3 : tie.Need-returns-3
-returns-3 c = 
+returns-3 c =
     let d = c .before .before in
     digits-other (kept d) (lent d) (sym (d .count-digits .ensures) ∙ c .enum-told .given .1)
 
@@ -66,7 +66,7 @@ same-length c = search needs
 
 -- src/lib.rt:113:1
 returns-4 : tie.Need-returns-4
-returns-4 c = 
+returns-4 c =
     let f = c .before .before in
     let k = f .before .before .before .before .before in
     let d = k .before .before in

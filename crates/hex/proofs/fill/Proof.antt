@@ -36,9 +36,8 @@ skip-requires c κs = omega arith
 
 -- src/lib.rt:101:5
 loop-holds : tie.Need-loop-holds Inv-loop μ-loop
-loop-holds c = 
-    let s = c .skip .ensures in
-    (
+loop-holds c =
+    let s = c .skip .ensures in (
       c .before .before .before .pre .1,
       record {
         inside = s .inside;
@@ -65,7 +64,7 @@ same-length c = omega arith
 
 -- src/lib.rt:104:13
 returns : tie.Need-returns Inv-loop μ-loop
-returns c = 
+returns c =
     let l = c .before .before .before in
     let a = l .before .before .before .before .args in
     let f = l .loop .inv .1 in
@@ -117,13 +116,12 @@ loop-less c = omega arith
 
 -- src/lib.rt:101:5
 loop-again : tie.Need-loop-again Inv-loop μ-loop
-loop-again c = 
+loop-again c =
     let s = c .skip3 .ensures in
     let e = c .before .before .before .before .before in
     let w = twos e in
     let l = e .before .before .before in
-    let f = l .loop .inv .1 in
-    (
+    let f = l .loop .inv .1 in (
       l .loop .inv .0,
       record {
         inside = s .inside;
@@ -142,7 +140,7 @@ same-length-2 c = omega arith
 
 -- src/lib.rt:94:1
 returns-2 : tie.Need-returns-2 Inv-loop μ-loop
-returns-2 c = 
+returns-2 c =
     let l = c .before in
     let a = l .before .before .before .before .args in
     let f = l .loop .inv .1 in

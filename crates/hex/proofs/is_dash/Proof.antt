@@ -23,7 +23,7 @@ shared-slice-read-if2 c = search needs
 
 -- src/lib.rt:84:9
 returns-2 : tie.Need-returns-2
-returns-2 c = 
+returns-2 c =
     let s = c .before .before .before in
     sym (dash-other _ _ (s .skip .ensures) (omega arith) (c .if2 .taken))
 
@@ -37,13 +37,13 @@ skip-requires-2 c κs = search needs
 
 -- src/lib.rt:88:9
 returns-3 : tie.Need-returns-3
-returns-3 c = 
+returns-3 c =
     let s = c .before .before .before .before .before in
     sym (dash-more _ _ (s .skip .ensures) _ (omega arith) (c .before .skip2 .ensures) (c .if3 .taken))
 
 -- src/lib.rt:76:1
 returns-4 : tie.Need-returns-4
-returns-4 c = 
+returns-4 c =
     let s = c .before .before .before .before .before in
     sym (dash-only _ _ (s .skip .ensures) _ (omega arith) (c .before .skip2 .ensures) (omega arith) (c .before .before .if2 .left))
 

@@ -30,7 +30,7 @@ shared-slice-read-if4 c = search needs
 -- src/lib.rt:225:9
 returns-4 : tie.Need-returns-4
 unfolding outline
-returns-4 c = 
+returns-4 c =
     let e = c .before .before in
     (rw (ne-eqb _ _ (e .before .before .if1 .left), ne-eqb _ _ (e .before .if2 .left), eq-eqb _ _ (e .if3 .left), ne-eqb _ _ (c .if4 .taken)), omega arith)
 
@@ -41,12 +41,11 @@ shared-slice-read-if5 c = search needs
 -- src/lib.rt:228:9
 returns-5 : tie.Need-returns-5
 unfolding outline
-returns-5 c = 
+returns-5 c =
     let f = c .before .before in
-    let e = f .before .before in
-    (
+    let e = f .before .before in (
       rw
-      (ne-eqb _ _ (e .before .before .if1 .left), ne-eqb _ _ (e .before .if2 .left), eq-eqb _ _ (e .if3 .left), eq-eqb _ _ (f .if4 .left), ne-eqb _ _ (c .if5 .taken)),
+          (ne-eqb _ _ (e .before .before .if1 .left), ne-eqb _ _ (e .before .if2 .left), eq-eqb _ _ (e .if3 .left), eq-eqb _ _ (f .if4 .left), ne-eqb _ _ (c .if5 .taken)),
       omega arith,
     )
 
@@ -57,13 +56,12 @@ shared-slice-read-if6 c = search needs
 -- src/lib.rt:231:9
 returns-6 : tie.Need-returns-6
 unfolding outline
-returns-6 c = 
+returns-6 c =
     let g = c .before .before in
     let f = g .before .before in
-    let e = f .before .before in
-    (
+    let e = f .before .before in (
       rw
-      (ne-eqb _ _ (e .before .before .if1 .left), ne-eqb _ _ (e .before .if2 .left), eq-eqb _ _ (e .if3 .left), eq-eqb _ _ (f .if4 .left), eq-eqb _ _ (g .if5 .left), ne-eqb _ _ (c .if6 .taken)),
+          (ne-eqb _ _ (e .before .before .if1 .left), ne-eqb _ _ (e .before .if2 .left), eq-eqb _ _ (e .if3 .left), eq-eqb _ _ (f .if4 .left), eq-eqb _ _ (g .if5 .left), ne-eqb _ _ (c .if6 .taken)),
       omega arith,
     )
 
@@ -74,28 +72,26 @@ shared-slice-read-if7 c = search needs
 -- src/lib.rt:234:9
 returns-7 : tie.Need-returns-7
 unfolding outline
-returns-7 c = 
+returns-7 c =
     let h = c .before .before in
     let g = h .before .before in
     let f = g .before .before in
-    let e = f .before .before in
-    (
+    let e = f .before .before in (
       rw
-      (ne-eqb _ _ (e .before .before .if1 .left), ne-eqb _ _ (e .before .if2 .left), eq-eqb _ _ (e .if3 .left), eq-eqb _ _ (f .if4 .left), eq-eqb _ _ (g .if5 .left), eq-eqb _ _ (h .if6 .left), ne-eqb _ _ (c .if7 .taken)),
+          (ne-eqb _ _ (e .before .before .if1 .left), ne-eqb _ _ (e .before .if2 .left), eq-eqb _ _ (e .if3 .left), eq-eqb _ _ (f .if4 .left), eq-eqb _ _ (g .if5 .left), eq-eqb _ _ (h .if6 .left), ne-eqb _ _ (c .if7 .taken)),
       omega arith,
     )
 
 -- src/lib.rt:211:1
 returns-8 : tie.Need-returns-8
 unfolding outline
-returns-8 c = 
+returns-8 c =
     let h = c .before .before in
     let g = h .before .before in
     let f = g .before .before in
-    let e = f .before .before in
-    (
+    let e = f .before .before in (
       rw
-      (ne-eqb _ _ (e .before .before .if1 .left), ne-eqb _ _ (e .before .if2 .left), eq-eqb _ _ (e .if3 .left), eq-eqb _ _ (f .if4 .left), eq-eqb _ _ (g .if5 .left), eq-eqb _ _ (h .if6 .left), eq-eqb _ _ (c .if7 .left)),
+          (ne-eqb _ _ (e .before .before .if1 .left), ne-eqb _ _ (e .before .if2 .left), eq-eqb _ _ (e .if3 .left), eq-eqb _ _ (f .if4 .left), eq-eqb _ _ (g .if5 .left), eq-eqb _ _ (h .if6 .left), eq-eqb _ _ (c .if7 .left)),
       omega arith,
     )
 

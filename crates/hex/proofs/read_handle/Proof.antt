@@ -23,7 +23,7 @@ enum-known-n c = search needs
 
 -- src/lib.rt:197:37
 cast-t7 : tie.Need-cast-t7
-cast-t7 c = 
+cast-t7 c =
     let r = c .before .before .before in
     omega (arith, number-bounded 16 65535 (r .before .before .before .args .word .now) _ (sym (r .read-number .ensures) ∙ c .before .n .given .1))
 
@@ -33,13 +33,13 @@ enum-told c = search needs
 
 -- src/lib.rt:190:1
 returns-2 : tie.Need-returns-2
-returns-2 c = 
+returns-2 c =
     let r = c .before .before .before in
     handle-as (r .before .before .before .args .word .now) (r .before .if1 .left) _ (sym (r .read-number .ensures) ∙ c .before .n .given .1)
 
 -- src/lib.rt:190:1
 returns-3 : tie.Need-returns-3
-returns-3 c = 
+returns-3 c =
     let r = c .before .before in
     handle-as (r .before .before .before .args .word .now) (r .before .if1 .left) _ (sym (r .read-number .ensures) ∙ c .enum-told .given .1)
 

@@ -15,7 +15,7 @@ is-dash-requires c κs = search needs
 
 -- src/lib.rt:138:9
 returns : tie.Need-returns
-returns c = 
+returns c =
     let a = c .before .before .before .before .args in
     hex-dash (a .text .now) (a .out .now) (sym (c .before .is-dash .ensures) ∙ c .if1 .taken)
 
@@ -29,7 +29,7 @@ same-length c = search needs
 
 -- src/lib.rt:133:1
 returns-2 : tie.Need-returns-2
-returns-2 c = 
+returns-2 c =
     let d = c .before .before in
     let e = d .before .before in
     let a = e .before .before .before .before .args in

@@ -31,13 +31,13 @@ fits c =
 
 -- src/lib.rt:161:9
 returns : tie.Need-returns Inv-loop μ-loop
-returns c = 
+returns c =
     let a = c .before .before .args in
     number-empty (a .base) (a .most) (a .word .now) (omega arith)
 
 -- src/lib.rt:165:5
 loop-holds : tie.Need-loop-holds Inv-loop μ-loop
-loop-holds c = 
+loop-holds c =
     let a = c .before .before .args in
     (omega arith, (omega arith, number-starts (a .base) (a .most) (a .word .now) (omega arith)))
 
@@ -55,14 +55,14 @@ wide-requires c κs = tt
 
 -- src/lib.rt:168:13
 returns-2 : tie.Need-returns-2 Inv-loop μ-loop
-returns-2 c = 
+returns-2 c =
     let l = c .before .before .before .before .before in
     let a = l .before .before .before .args in
     sym (l .loop .inv .1 .1 ∙ number-other (a .base) (a .most) (l .loop .v) (l .loop .i) (a .word .now) (omega arith) (omega arith))
 
 -- src/lib.rt:171:13
 returns-3 : tie.Need-returns-3 Inv-loop μ-loop
-returns-3 c = 
+returns-3 c =
     let l = c .before .before .before .before .before .before in
     let s = l .before .before .before in
     let a = s .args in
@@ -74,15 +74,15 @@ div-if4 c = omega arith
 
 -- src/lib.rt:174:13
 returns-4 : tie.Need-returns-4 Inv-loop μ-loop
-returns-4 c = 
+returns-4 c =
     let w = c .before .before .before in
     let l = w .before .before .before .before in
     let s = l .before .before .before in
     let a = s .args in
     sym
     (l .loop .inv .1 .1
-        ∙ number-over (a .base) (a .most) (l .loop .v) (l .loop .i) (a .word .now) (omega arith) (s .pre) (omega arith)
-        (omega (arith, over-div (a .base) (a .most) (l .loop .v) (w .wide .result) (s .pre) (c .if4 .taken))))
+    ∙ number-over (a .base) (a .most) (l .loop .v) (l .loop .i) (a .word .now) (omega arith) (s .pre) (omega arith)
+    (omega (arith, over-div (a .base) (a .most) (l .loop .v) (w .wide .result) (s .pre) (c .if4 .taken))))
 
 -- src/lib.rt:176:13
 mul-v : tie.Need-mul-v Inv-loop μ-loop
@@ -102,13 +102,12 @@ loop-less c = omega arith
 
 -- src/lib.rt:165:5
 loop-again : tie.Need-loop-again Inv-loop μ-loop
-loop-again c = 
+loop-again c =
     let w = c .before .before .before in
     let l = w .before .before .before .before in
     let s = l .before .before .before in
     let a = s .args in
-    let e : digit (getD (a .word .now) (l .loop .i) 0) ≡ w .wide .result = omega arith in
-    (
+    let e : digit (getD (a .word .now) (l .loop .i) 0) ≡ w .wide .result = omega arith in (
       omega arith,
       (
         fits c,
@@ -120,7 +119,7 @@ loop-again c =
 
 -- src/lib.rt:156:1
 returns-5 : tie.Need-returns-5 Inv-loop μ-loop
-returns-5 c = 
+returns-5 c =
     let l = c .before in
     let a = l .before .before .before .args in
     sym (l .loop .inv .1 .1 ∙ number-ends (a .base) (a .most) (l .loop .v) (l .loop .i) (a .word .now) (omega arith) (omega arith))

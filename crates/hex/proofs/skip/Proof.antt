@@ -27,7 +27,7 @@ shared-slice-read-c c = omega arith
 
 -- src/lib.rt:51:17
 returns : tie.Need-returns Inv-loop μ-loop
-returns c = 
+returns c =
     let l = c .before .before .before .before in
     let a = l .before .args in
     record {
@@ -47,24 +47,23 @@ loop-less c = omega arith
 
 -- src/lib.rt:47:5
 loop-again : tie.Need-loop-again Inv-loop μ-loop
-loop-again c = 
+loop-again c =
     let l = c .before .before .before in
     let a = l .before .args in
-    let h : l .loop .i < length (a .text .now) = omega arith in
-    (
+    let h : l .loop .i < length (a .text .now) = omega arith in (
       omega arith,
       (
         omega arith,
         ⊎-elim
-        (λ w. over-b (a .a) (a .b) (l .loop .i) (a .text .now) h (w .0 .taken) (w .1 .left) ∙ l .loop .inv .1 .1)
-        (λ w. over-a (a .a) (a .b) (l .loop .i) (a .text .now) h (w .left) ∙ l .loop .inv .1 .1)
-        (c .if1 .came),
+            (λ w. over-b (a .a) (a .b) (l .loop .i) (a .text .now) h (w .0 .taken) (w .1 .left) ∙ l .loop .inv .1 .1)
+            (λ w. over-a (a .a) (a .b) (l .loop .i) (a .text .now) h (w .left) ∙ l .loop .inv .1 .1)
+            (c .if1 .came),
       ),
     )
 
 -- src/lib.rt:42:1
 returns-2 : tie.Need-returns-2 Inv-loop μ-loop
-returns-2 c = 
+returns-2 c =
     let l = c .before in
     record {
       onward = omega arith;

@@ -48,7 +48,7 @@ no-type-requires c κs = search needs
 
 -- src/lib.rt:257:17
 returns : tie.Need-returns
-returns c = 
+returns c =
     let k = c .before .before .before in
     let d = k .before .before .before in
     c .no-type .ensures ∙ type-other (asked d) (means d) _ (sym (k .k .given .1) ∙ d .decode .ensures .0) (c .before .if1 .taken) ∙ answer d
@@ -79,7 +79,7 @@ no-type-requires-3 c κs = search needs
 
 -- src/lib.rt:249:1
 returns-2 : tie.Need-returns-2
-returns-2 c = 
+returns-2 c =
     let e = c .before .before .before in
     let k = e .before .before in
     let d = k .before .before .before in
@@ -87,17 +87,17 @@ returns-2 c =
 
 -- src/lib.rt:249:1
 returns-3 : tie.Need-returns-3
-returns-3 c = 
+returns-3 c =
     let d = c .before .before .before .before in
     c .no-type2 .ensures ∙ type-not (asked d) (means d) (sym (c .before .enum-told .given .1) ∙ d .decode .ensures .0) ∙ answer d
 
 -- src/lib.rt:249:1
 returns-4 : tie.Need-returns-4
-returns-4 c = 
+returns-4 c =
     let d = c .before .before .before .before in
     c .no-type3 .ensures
-        ∙ type-long (asked d) (means d) (d .before .before .outline .ensures .1) (sym (c .before .enum-told2 .given .1) ∙ d .decode .ensures .0)
-        ∙ answer d
+    ∙ type-long (asked d) (means d) (d .before .before .outline .ensures .1) (sym (c .before .enum-told2 .given .1) ∙ d .decode .ensures .0)
+    ∙ answer d
 
 pub type-bytes-spec : {M : Type 1} → statement M
 type-bytes-spec =

@@ -27,13 +27,13 @@ sub-result c = search needs
 
 -- src/lib.rt:54:9
 returns-2 : tie.Need-returns-2
-returns-2 c = 
+returns-2 c =
     let a = c .before .before .before .args in
     (cr-ends (a .line .now) _ (omega arith) (c .if2 .taken), omega arith)
 
 -- src/lib.rt:45:1
 returns-3 : tie.Need-returns-3
-returns-3 c = 
+returns-3 c =
     let a = c .before .before .before .args in
     (other-ends (a .line .now) _ (omega arith) (c .if2 .left) ∙ sym (take-length (a .line .now)), omega arith)
 

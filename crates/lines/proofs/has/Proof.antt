@@ -26,7 +26,7 @@ shared-slice-read-if1 c = omega arith
 
 -- src/lib.rt:221:13
 returns : tie.Need-returns Inv-loop μ-loop
-returns c = 
+returns c =
     let l = c .before .before .before in
     let a = l .before .args in
     sym (l .loop .inv .1 ∙ member-here (a .letter) (l .loop .i) (a .word .now) (omega arith) (c .if1 .taken))
@@ -41,14 +41,14 @@ loop-less c = omega arith
 
 -- src/lib.rt:219:5
 loop-again : tie.Need-loop-again Inv-loop μ-loop
-loop-again c = 
+loop-again c =
     let l = c .before .before .before in
     let a = l .before .args in
     (omega arith, l .loop .inv .1 ∙ member-on (a .letter) (l .loop .i) (a .word .now) (omega arith) (c .if1 .left))
 
 -- src/lib.rt:215:1
 returns-2 : tie.Need-returns-2 Inv-loop μ-loop
-returns-2 c = 
+returns-2 c =
     let l = c .before in
     let a = l .before .args in
     sym (l .loop .inv .1 ∙ member-none (a .letter) (l .loop .i) (a .word .now) (omega arith))

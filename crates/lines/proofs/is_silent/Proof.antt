@@ -27,7 +27,7 @@ shared-slice-read-c c = omega arith
 
 -- src/lib.rt:68:17
 returns : tie.Need-returns Inv-loop μ-loop
-returns c = 
+returns c =
     let l = c .before .before .before .before in
     let a = l .before .args in
     sym (l .loop .inv .1 ∙ silent-first (a .line .now) (l .loop .i) (omega arith) (no-blank _ (c .before .if1 .taken) (c .if2 .taken)))
@@ -42,11 +42,10 @@ loop-less c = omega arith
 
 -- src/lib.rt:64:5
 loop-again : tie.Need-loop-again Inv-loop μ-loop
-loop-again c = 
+loop-again c =
     let l = c .before .before .before in
     let a = l .before .args in
-    let h : l .loop .i < length (a .line .now) = omega arith in
-    (
+    let h : l .loop .i < length (a .line .now) = omega arith in (
       omega arith,
       l .loop .inv .1
           ∙ silent-blank (a .line .now) (l .loop .i) h
@@ -55,7 +54,7 @@ loop-again c =
 
 -- src/lib.rt:60:1
 returns-2 : tie.Need-returns-2 Inv-loop μ-loop
-returns-2 c = 
+returns-2 c =
     let l = c .before in
     sym (l .loop .inv .1 ∙ silent-none (l .before .args .line .now) (l .loop .i) (omega arith))
 

@@ -51,7 +51,7 @@ chomp-requires c κs = search needs
 
 -- src/lib.rt:93:13
 returns-2 : tie.Need-returns-2
-returns-2 c = 
+returns-2 c =
     let w = c .before .before in
     let a = w .before .before .before .before .before .args in
     whole-long (a .lines) (a .buf .now) _ (whole w) (c .before .if2 .taken) (c .if3 .taken)
@@ -74,7 +74,7 @@ is-silent-requires c κs = search needs
 
 -- src/lib.rt:97:9
 returns-3 : tie.Need-returns-3
-returns-3 c = 
+returns-3 c =
     let j = c .before .before .before in
     let w = j .before in
     let a = w .before .before .before .before .before .args in
@@ -82,7 +82,7 @@ returns-3 c =
 
 -- src/lib.rt:83:1
 returns-4 : tie.Need-returns-4
-returns-4 c = 
+returns-4 c =
     let j = c .before .before .before in
     let w = j .before in
     let a = w .before .before .before .before .before .args in

@@ -15,7 +15,7 @@ end-requires c κs = search needs
 
 -- src/lib.rt:154:9
 returns : tie.Need-returns
-returns c = 
+returns c =
     let a = c .before .before .before .args in
     last-long (a .lines) (a .buf .now) _ (c .before .if1 .taken) (c .end .ensures)
 
@@ -25,7 +25,7 @@ end-requires-2 c κs = search needs
 
 -- src/lib.rt:157:9
 returns-2 : tie.Need-returns-2
-returns-2 c = 
+returns-2 c =
     let t = c .before in
     let e = t .before .before in
     let a = e .before .before .args in
@@ -37,7 +37,7 @@ reading-requires c κs = search needs
 
 -- src/lib.rt:150:1
 returns-3 : tie.Need-returns-3
-returns-3 c = 
+returns-3 c =
     let t = c .before in
     let e = t .before .before in
     let a = e .before .before .args in

@@ -14,7 +14,7 @@ once-requires c κs = search needs
 
 -- src/lib.rt:250:9
 returns : tie.Need-returns
-returns c = 
+returns c =
     let t = c .before in
     let a = t .before .before .before .args in
     c .once .ensures ∙ marks-letters (a .letters .now) (a .word .now) (λ h. absurd (t .if1 .taken h))
@@ -25,7 +25,7 @@ shared-slice-read-if2 c = search needs
 
 -- src/lib.rt:253:9
 returns-2 : tie.Need-returns-2
-returns-2 c = 
+returns-2 c =
     let e = c .before .before in
     let a = e .before .before .before .args in
     marks-dash (a .letters .now) (a .word .now) (e .if1 .left) (c .if2 .taken)
@@ -36,7 +36,7 @@ once-requires-2 c κs = search needs
 
 -- src/lib.rt:246:1
 returns-3 : tie.Need-returns-3
-returns-3 c = 
+returns-3 c =
     let t = c .before in
     let a = t .before .before .before .before .before .args in
     c .once2 .ensures ∙ marks-letters (a .letters .now) (a .word .now) (λ h. t .if2 .left)

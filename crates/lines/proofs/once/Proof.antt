@@ -33,7 +33,7 @@ has-requires c κs = tt
 
 -- src/lib.rt:235:13
 returns : tie.Need-returns Inv-loop μ-loop
-returns c = 
+returns c =
     let h = c .before in
     let l = h .before .before .before in
     let a = l .before .before .before .args in
@@ -61,7 +61,7 @@ has-requires-2 c κs = tt
 
 -- src/lib.rt:238:13
 returns-2 : tie.Need-returns-2 Inv-loop μ-loop
-returns-2 c = 
+returns-2 c =
     let k = c .before in
     let e = k .before .before in
     let h = e .before in
@@ -70,8 +70,8 @@ returns-2 c =
     let x = getD (a .word .now) (l .loop .i) 0 in
     sym
     (l .loop .inv .1
-        ∙ once-twice (a .letters .now) (a .word .now) (l .loop .i) (omega arith) (sym (h .has .ensures) ∙ not-false _ (e .if1 .left))
-        (sym (ap (member x) (to-the-end (l .loop .i + 1) (a .word .now))) ∙ sym (k .has2 .ensures) ∙ c .if2 .taken))
+    ∙ once-twice (a .letters .now) (a .word .now) (l .loop .i) (omega arith) (sym (h .has .ensures) ∙ not-false _ (e .if1 .left))
+    (sym (ap (member x) (to-the-end (l .loop .i + 1) (a .word .now))) ∙ sym (k .has2 .ensures) ∙ c .if2 .taken))
 
 -- src/lib.rt:240:9
 add-i : tie.Need-add-i Inv-loop μ-loop
@@ -83,14 +83,13 @@ loop-less c = omega arith
 
 -- src/lib.rt:232:5
 loop-again : tie.Need-loop-again Inv-loop μ-loop
-loop-again c = 
+loop-again c =
     let k = c .before in
     let e = k .before .before in
     let h = e .before in
     let l = h .before .before .before in
     let a = l .before .before .before .args in
-    let x = getD (a .word .now) (l .loop .i) 0 in
-    (
+    let x = getD (a .word .now) (l .loop .i) 0 in (
       omega arith,
       l .loop .inv .1
           ∙ once-on (a .letters .now) (a .word .now) (l .loop .i) (omega arith) (sym (h .has .ensures) ∙ not-false _ (e .if1 .left))
@@ -99,7 +98,7 @@ loop-again c =
 
 -- src/lib.rt:228:1
 returns-3 : tie.Need-returns-3 Inv-loop μ-loop
-returns-3 c = 
+returns-3 c =
     let l = c .before in
     let a = l .before .before .before .args in
     sym (l .loop .inv .1 ∙ once-none (a .letters .now) (a .word .now) (l .loop .i) (omega arith))

@@ -19,7 +19,7 @@ same-length c = search needs
 
 -- src/lib.rt:139:9
 returns : tie.Need-returns
-returns c = 
+returns c =
     let t = c .before .before in
     let a = t .before .before .args in
     step-lf (a .lines) (a .buf .now) _ (a .c) (t .if1 .taken) (c .end .ensures)
@@ -42,7 +42,7 @@ same-length-2 c = search needs
 
 -- src/lib.rt:144:9
 returns-2 : tie.Need-returns-2
-returns-2 c = 
+returns-2 c =
     let t = c .before in
     let e = t .before in
     let a = e .before .before .args in
@@ -54,7 +54,7 @@ reading-requires-2 c κs = search needs
 
 -- src/lib.rt:134:1
 returns-3 : tie.Need-returns-3
-returns-3 c = 
+returns-3 c =
     let t = c .before in
     let e = t .before in
     let a = e .before .before .args in

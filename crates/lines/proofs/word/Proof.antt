@@ -24,7 +24,7 @@ word-start-requires c κs = omega arith
 
 -- src/lib.rt:205:5
 loop-holds : tie.Need-loop-holds Inv-loop μ-loop
-loop-holds c = 
+loop-holds c =
     let a = c .before .before .args in
     let s = c .word-start .ensures in
     (s .0, words-start (a .k) (c .word-start .result) (a .line .now) (a .line .now) (s .1))
@@ -47,13 +47,12 @@ loop-less c = omega arith
 
 -- src/lib.rt:205:5
 loop-again : tie.Need-loop-again Inv-loop μ-loop
-loop-again c = 
+loop-again c =
     let l = c .before .before .before in
     let a = l .before .before .before .args in
     let e = c .before .word-end .ensures in
     let s = c .word-start2 .ensures in
-    let w = words-start (l .loop .left - 1) (c .word-start2 .result) (drop (c .before .word-end .result) (a .line .now)) (a .line .now) (s .1) in
-    (
+    let w = words-start (l .loop .left - 1) (c .word-start2 .result) (drop (c .before .word-end .result) (a .line .now)) (a .line .now) (s .1) in (
       s .0,
       (
         w .0,
@@ -82,13 +81,13 @@ part-result-end c = omega (arith, c .word-end2 .ensures .inside)
 
 -- src/lib.rt:200:1
 returns : tie.Need-returns Inv-loop μ-loop
-returns c = 
+returns c =
     let e = c .before in
     let l = e .before .before in
     let a = l .before .before .before .args in
     e .word-end2 .ensures .word
-        ∙ sym (words-here (l .loop .left) (drop (l .loop .at) (a .line .now)) (omega arith) (l .loop .inv .1 .0))
-        ∙ sym (l .loop .inv .1 .1)
+    ∙ sym (words-here (l .loop .left) (drop (l .loop .at) (a .line .now)) (omega arith) (l .loop .inv .1 .0))
+    ∙ sym (l .loop .inv .1 .1)
 
 pub word-spec : {M : Type 1} → statement M
 word-spec =

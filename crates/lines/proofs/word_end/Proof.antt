@@ -12,7 +12,7 @@ use Rattle.lines.proofs.word_end.Reads as reads
 use Rattle.lines.proofs.word_end.Lts as lts
 
 abbrev Inv-loop : tie.InvT-loop
-Inv-loop line from i₀ i = 
+Inv-loop line from i₀ i =
     (from ≤ i)
     × ((i ≤ length line)
     × ((behind (drop i line) ≡ behind (drop from line)) × (take (i - from) (drop from line) ++ front (drop i line) ≡ front (drop from line))))
@@ -30,7 +30,7 @@ shared-slice-read-c c = omega arith
 
 -- src/lib.rt:189:13
 returns : tie.Need-returns Inv-loop μ-loop
-returns c = 
+returns c =
     let l = c .before .before .before in
     let a = l .before .args in
     let b = behind-blank (a .line .now) (l .loop .i) (omega arith) (blank-space _ (c .if1 .taken)) in
@@ -43,7 +43,7 @@ returns c =
 
 -- src/lib.rt:192:13
 returns-2 : tie.Need-returns-2 Inv-loop μ-loop
-returns-2 c = 
+returns-2 c =
     let l = c .before .before .before .before in
     let a = l .before .args in
     let b = behind-blank (a .line .now) (l .loop .i) (omega arith) (blank-tab _ (c .before .if1 .left) (c .if2 .taken)) in
@@ -64,11 +64,10 @@ loop-less c = omega arith
 
 -- src/lib.rt:186:5
 loop-again : tie.Need-loop-again Inv-loop μ-loop
-loop-again c = 
+loop-again c =
     let l = c .before .before .before .before in
     let a = l .before .args in
-    let n = no-blank _ (c .before .if1 .left) (c .if2 .left) in
-    (
+    let n = no-blank _ (c .before .if1 .left) (c .if2 .left) in (
       omega arith,
       (
         omega arith,
@@ -81,7 +80,7 @@ loop-again c =
 
 -- src/lib.rt:181:1
 returns-3 : tie.Need-returns-3 Inv-loop μ-loop
-returns-3 c = 
+returns-3 c =
     let l = c .before in
     let a = l .before .args in
     let b = behind-none (a .line .now) (l .loop .i) (omega arith) in

@@ -27,10 +27,9 @@ shared-slice-read-c c = omega arith
 
 -- src/lib.rt:172:17
 returns : tie.Need-returns Inv-loop μ-loop
-returns c = 
+returns c =
     let l = c .before .before .before .before in
-    let a = l .before .args in
-    (
+    let a = l .before .args in (
       omega arith,
       sym (trimmed-first (a .line .now) (l .loop .i) (omega arith) (no-blank _ (c .before .if1 .taken) (c .if2 .taken))) ∙ l .loop .inv .1,
     )
@@ -45,21 +44,20 @@ loop-less c = omega arith
 
 -- src/lib.rt:168:5
 loop-again : tie.Need-loop-again Inv-loop μ-loop
-loop-again c = 
+loop-again c =
     let l = c .before .before .before in
     let a = l .before .args in
-    let h : l .loop .i < length (a .line .now) = omega arith in
-    (
+    let h : l .loop .i < length (a .line .now) = omega arith in (
       omega arith,
       sym
-      (trimmed-blank (a .line .now) (l .loop .i) h
-      (⊎-elim (λ w. blank-tab _ (w .0 .taken) (w .1 .left)) (λ w. blank-space _ (w .left)) (c .if1 .came)))
+          (trimmed-blank (a .line .now) (l .loop .i) h
+          (⊎-elim (λ w. blank-tab _ (w .0 .taken) (w .1 .left)) (λ w. blank-space _ (w .left)) (c .if1 .came)))
           ∙ l .loop .inv .1,
     )
 
 -- src/lib.rt:163:1
 returns-2 : tie.Need-returns-2 Inv-loop μ-loop
-returns-2 c = 
+returns-2 c =
     let l = c .before in
     (omega arith, sym (trimmed-none (l .before .args .line .now) (l .loop .i) (omega arith)) ∙ l .loop .inv .1)
 

@@ -32,7 +32,7 @@ same-length c = search needs
 
 -- src/lib.rt:96:1
 returns : tie.Need-returns
-returns c = 
+returns c =
     let t = c .before .before in
     let d = t .before .before .before in
     let a = d .before .before .before .args in

@@ -18,19 +18,19 @@ abbrev μ-loop : tie.MeasureT-loop
 
 -- src/lib.rt:51:9
 returns : tie.Need-returns Inv-loop μ-loop
-returns c = 
+returns c =
     let a = c .before .before .before .args in
     full (a .pos) (capitals (a .bytes .now)) (a .out .now) (omega arith)
 
 -- src/lib.rt:54:9
 returns-2 : tie.Need-returns-2 Inv-loop μ-loop
-returns-2 c = 
+returns-2 c =
     let a = c .before .before .before .before .args in
     full (a .pos) (capitals (a .bytes .now)) (a .out .now) (omega (arith, capitals-length (a .bytes .now)))
 
 -- src/lib.rt:58:5
 loop-holds : tie.Need-loop-holds Inv-loop μ-loop
-loop-holds c = 
+loop-holds c =
     let a = c .before .before .before .before .args in
     nothing-printed (a .pos) (a .bytes .now) (a .out .now) (omega arith)
 
@@ -56,7 +56,7 @@ loop-less c = omega arith
 
 -- src/lib.rt:58:5
 loop-again : tie.Need-loop-again Inv-loop μ-loop
-loop-again c = 
+loop-again c =
     let f = c .before .before in
     let l = f .before .before .before .before in
     let a = l .before .before .before .before .before .args in
@@ -68,7 +68,7 @@ same-length c = omega arith
 
 -- src/lib.rt:45:1
 returns-3 : tie.Need-returns-3 Inv-loop μ-loop
-returns-3 c = 
+returns-3 c =
     let l = c .before in
     let a = l .before .before .before .before .before .args in
     all-printed (a .pos) (a .bytes .now) (a .out .now) _ (l .loop .at) (l .loop .i) (l .loop .inv) (omega arith)

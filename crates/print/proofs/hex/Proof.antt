@@ -22,7 +22,7 @@ same-length c = search needs
 
 -- src/lib.rt:72:9
 returns : tie.Need-returns
-returns c = 
+returns c =
     let t = c .before .before in
     let h = t .before .before .before in
     let a = h .before .before .before .args in
@@ -38,7 +38,7 @@ same-length-2 c = search needs
 
 -- src/lib.rt:67:1
 returns-2 : tie.Need-returns-2
-returns-2 c = 
+returns-2 c =
     let t = c .before .before in
     let h = t .before .before in
     let a = h .before .before .before .args in

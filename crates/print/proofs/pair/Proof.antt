@@ -35,7 +35,7 @@ same-length c = search needs
 
 -- src/lib.rt:36:1
 returns : tie.Need-returns
-returns c = 
+returns c =
     let s = c .before .before .before in
     two-stores (s .args .out .now) (s .args .at) _ _ (s .args .b) (s .pre) (c .before .glyph .ensures) (c .glyph2 .ensures)
 

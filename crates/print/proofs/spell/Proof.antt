@@ -36,7 +36,7 @@ enum-told-3 c = search needs
 
 -- src/lib.rt:132:24
 usual-requires : tie.Need-usual-requires
-usual-requires c κs = 
+usual-requires c κs =
     let s = c .before .before .before .before in
     omega (arith, s .pre, ap widthOf (c .enum-told3 .given .1))
 
@@ -54,7 +54,7 @@ same-length c = search needs
 
 -- src/lib.rt:123:1
 returns : tie.Need-returns
-returns c = 
+returns c =
     let t = c .before .before in
     let f = t .before .before in
     let a = f .before .before .before .before .args in
@@ -66,7 +66,7 @@ same-length-2 c = search needs
 
 -- src/lib.rt:123:1
 returns-2 : tie.Need-returns-2
-returns-2 c = 
+returns-2 c =
     let t = c .before .before in
     let f = t .before .before in
     let a = f .before .before .before .before .args in
@@ -78,7 +78,7 @@ same-length-3 c = search needs
 
 -- src/lib.rt:123:1
 returns-3 : tie.Need-returns-3
-returns-3 c = 
+returns-3 c =
     let t = c .before .before in
     let u = t .before .before .before in
     let f = u .before in

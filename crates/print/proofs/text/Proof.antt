@@ -44,7 +44,7 @@ same-length c = search needs
 
 -- src/lib.rt:13:1
 returns-3 : tie.Need-returns-3
-returns-3 c = 
+returns-3 c =
     let f = c .before .before in
     let a = f .before .before .before .before .before .before .args in
     printed (a .pos) _ (a .bytes .now) (a .out .now) _ (omega arith) refl

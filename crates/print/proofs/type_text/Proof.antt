@@ -26,7 +26,7 @@ slice-aggregate-reverse c = search needs
 
 -- src/lib.rt:146:5
 reverse-requires : tie.Need-reverse-requires
-reverse-requires c κs = 
+reverse-requires c κs =
     let s = c .before .before .before .before in
     (omega arith, own-inside (s .args .u) _ (c .before .width .ensures) (full s))
 
@@ -40,7 +40,7 @@ part-spell-start c = search needs
 
 -- src/lib.rt:147:27
 part-spell-end : tie.Need-part-spell-end
-part-spell-end c = 
+part-spell-end c =
     let r = c .before .before .before in
     let w = r .before .before in
     let s = w .before .before .before in
@@ -48,7 +48,7 @@ part-spell-end c =
 
 -- src/lib.rt:147:5
 spell-requires : tie.Need-spell-requires
-spell-requires c κs = 
+spell-requires c κs =
     let r = c .before .before .before .before in
     let w = r .before .before in
     let s = w .before .before .before in
@@ -60,7 +60,7 @@ same-length c = search needs
 
 -- src/lib.rt:139:1
 returns : tie.Need-returns
-returns c = 
+returns c =
     let t = c .before .before in
     let r = t .before .before .before .before .before in
     let w = r .before .before in

@@ -109,7 +109,7 @@ digits-requires-5 c κs = search needs
 
 -- src/lib.rt:109:1
 returns : tie.Need-returns
-returns c = 
+returns c =
     let d5 = c .before in
     let d4 = d5 .before .before .before .before in
     let d3 = d4 .before .before .before .before in
