@@ -1,6 +1,7 @@
 -- `hex::read_type` meets its contract: the bytes that `type_bytes` padded are those that `from_slice` is handed.
 use mathlib.Core.Path.{ap, _∙_}
 use Rattle.uuid.specs.Uuids.{sliced}
+use Rattle.hex.specs.Hex.{typeBytes}
 use Rattle.hex.specs.HexLaws.{raw-own, raw-room}
 use borrow.Author.Needs.{needs}
 use Rattle.hex.proofs.read_type.Statement.{statement}
@@ -24,7 +25,9 @@ part-from-slice-start c = search needs
 
 -- src/lib.rt:272:22
 part-from-slice-end : tie.Need-part-from-slice-end
-part-from-slice-end c = raw-room _ _ (c .before .before .type-bytes .ensures)
+part-from-slice-end c =
+    let t = c .before .before in
+    raw-room _ (typeBytes (t .before .before .args .word .now)) (t .type-bytes .ensures)
 
 -- src/lib.rt:272:5
 from-slice-requires : tie.Need-from-slice-requires
@@ -32,7 +35,9 @@ from-slice-requires c κs = search needs
 
 -- src/lib.rt:266:1
 returns : tie.Need-returns
-returns c = c .from-slice .ensures ∙ ap sliced (raw-own _ _ (c .before .before .before .before .type-bytes .ensures))
+returns c =
+    let t = c .before .before .before .before in
+    c .from-slice .ensures ∙ ap sliced (raw-own _ (typeBytes (t .before .before .args .word .now)) (t .type-bytes .ensures))
 
 pub read-type-spec : {M : Type 1} → statement M
 read-type-spec =
