@@ -54,7 +54,16 @@ read-values [] h = (refl, refl)
 read-values (b ∷ bs) h =
     let p = below-cons 256 b bs h in
     let q = read-values bs (p .1) in
-    rw (values-two b bs (p .0), lt-ltb (b / 16) 16 (omega (arith, p .0)), lt-ltb (b % 16) 16 (omega arith), q .1, div-add-mod' b 16) (q .0, refl)
+    let v : List ℕ = values (capitals bs) in
+    let e = values-two b bs (p .0) in
+    let g : below 16 (b / 16 ∷ b % 16 ∷ v) ≡ true =
+    rw (lt-ltb (b / 16) 16 (omega (arith, p .0)), lt-ltb (b % 16) 16 (omega arith)) (q .0) in
+    let k : pairs (b / 16 ∷ b % 16 ∷ v) ≡ b ∷ bs = rw (q .1, div-add-mod' b 16) in
+    (ap (below 16) e ∙ g, ap pairs e ∙ k)
+
+two-first : (c : ℕ) (cs : List ℕ) → isDash (capitals (c ∷ cs)) ≡ false
+unfolding capitals
+two-first c cs = refl
 
 pub read-printed : (bs : List ℕ) → below 256 bs ≡ true → hexMeans (hexText bs) ≡ some bs
 unfolding hexMeans without
@@ -63,6 +72,3 @@ read-printed (b ∷ bs) h =
     let q = read-values (b ∷ bs) h in
     let n : length (values (capitals (b ∷ bs))) % 2 ≡ 0 = omega (arith, length-map (capitals (b ∷ bs)) digit, capitals-length (b ∷ bs)) in
     rw (no-blanks (b ∷ bs), two-first b bs, q .0, eq-eqb (length (values (capitals (b ∷ bs))) % 2) 0 n, q .1)
-  where
-    two-first : (c : ℕ) (cs : List ℕ) → isDash (capitals (c ∷ cs)) ≡ false
-    two-first c cs = ?
