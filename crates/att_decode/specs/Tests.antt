@@ -1,8 +1,4 @@
-<<<<<<< HEAD
--- Document 01's column "Decodes" for a number of bytes of fixed fields and a kind of tail: what the helpers that the rows share are
-=======
 -- Document 01's column "Decodes" for a number of bytes of fixed fields and a kind of tail: what the functions that rows share are
->>>>>>> 5ddc0168fc44372099deb65ea26547dceac5eb31
 -- proved equal to. The rows themselves are in Wire.antt and Typed.antt of `att`, and every reader is proved equal to its row.
 use Prim.Native.Nat.{ℕ}
 use mathlib.Core.Bool.{_&&_}

@@ -1,8 +1,4 @@
-<<<<<<< HEAD
--- Document 01's column "Strict" for a number of bytes of fixed fields and a kind of tail: what the helpers that the rows share are
-=======
 -- Document 01's column "Strict" for a number of bytes of fixed fields and a kind of tail: what the functions that rows share are
->>>>>>> 5ddc0168fc44372099deb65ea26547dceac5eb31
 -- proved equal to. The rows themselves are in Wire.antt of `att`.
 use Prim.Native.Nat.{ℕ}
 use mathlib.Core.Bool.{Bool, _&&_}

@@ -1,8 +1,4 @@
-<<<<<<< HEAD
--- Laws of the tests on lengths. Each has the shape of what a helper's proof is asked for.
-=======
 -- Laws of the tests on lengths. Each has the shape of what a function's proof is asked for.
->>>>>>> 5ddc0168fc44372099deb65ea26547dceac5eb31
 use Prim.Native.Nat.{ℕ, _-_, _%_, _≤_, _<_}
 use mathlib.Core.Bool.{Bool, true, false, _&&_, _||_}
 use mathlib.Core.Path.{_≡_, refl, sym, ap, _∙_}

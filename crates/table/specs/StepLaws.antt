@@ -33,91 +33,11 @@ use Rattle.attributes.specs.declared.Outcome.the-variants.{Accepted, Refused}
 use Rattle.attributes.specs.declared.Place.{Place}
 use Rattle.attributes.specs.declared.Place.the-variants.{Fixed, Live}
 use Rattle.attributes.specs.declared.Record.{Record}
-use Rattle.attributes.specs.declared.Room as asked
-use Rattle.attributes.specs.declared.Room.the-variants as room
 use Rattle.attributes.specs.declared.Table.{Table}
-use Rattle.table.specs.declared.Walked.{Walked}
-use Rattle.table.specs.Steps.{walkFrom, refusing, withRecord, storedAs, storedAsLive}
-
--- Rules, by what was asked for. The code subtracts where the definition adds.
-module _ (fl : ℕ) (w : Bool) (q : asked.Room) where
-  pub value-long : (a n : ℕ) → q ≡ room.Fixed a n → 512 < n → false ≡ valueOk fl w q
-  value-long a n e h = sym (ap (valueOk fl w) e ∙ rw (lt-leb n 512 h))
-
-  pub value-outside : (a n : ℕ) → q ≡ room.Fixed a n → n ≤ 512 → fl < a + n → false ≡ valueOk fl w q
-  value-outside a n e h k = sym (ap (valueOk fl w) e ∙ rw (le-leb n 512 h, lt-leb (a + n) fl k))
-
-  pub value-inside : (a n : ℕ) → q ≡ room.Fixed a n → n ≤ 512 → a + n ≤ fl → not w ≡ valueOk fl w q
-  value-inside a n e h k = sym (ap (valueOk fl w) e ∙ rw (le-leb n 512 h, le-leb (a + n) fl k))
-
-  pub value-live : (c : ℕ) → q ≡ room.Live c → leb c 512 ≡ valueOk fl w q
-  value-live c e = sym (ap (valueOk fl w) e)
-
-module _ (ll at : ℕ) (q : asked.Room) (c : ℕ) (e : q ≡ room.Live c) where
-  pub space-none : ll < at → false ≡ spaceOk ll at q
-  space-none h = sym (ap (spaceOk ll at) e ∙ rw (lt-leb (at + c) ll (omega arith)))
-
-  pub space-left : at ≤ ll → leb c (ll - at) ≡ spaceOk ll at q
-  space-left h = by (leb c (ll - at)) refl ∙ sym (ap (spaceOk ll at) e)
-    where
-      by : (b : Bool) → leb c (ll - at) ≡ b → leb c (ll - at) ≡ leb (at + c) ll
-      by true k = k ∙ sym (le-leb (at + c) ll (omega (arith, leb-true c (ll - at) k)))
-      by false k = k ∙ sym (lt-leb (at + c) ll (omega (arith, leb-false c (ll - at) k)))
-
--- The walk over the first `n` records, one at a time.
-module _ (fl ll last at i n : ℕ) (l : List Record) where
-  walk-step : (d : Record) → i < n → n ≤ length l
-      → walkFrom fl ll last at (drop i (take n l))
-      ≡ pick (recordOk fl ll last at (getD l i d)) (walkFrom fl ll (getD l i d .handle) (slotsEnd at (getD l i d)) (drop (suc i) (take n l)))
-      (record { sound = false; last = last; used = at })
-  unfolding walkFrom
-  walk-step d p q =
-      let k : i < length (take n l) = rw (length-take-le n l) (omega arith) in
-      rw (drop-cons (take n l) i d k, getD-take n l i d p)
-
-  pub walk-stops : (d : Record) → i < n → n ≤ length l → recordOk fl ll last at (getD l i d) ≡ false
-      → walkFrom fl ll last at (drop i (take n l)) ≡ record { sound = false; last = last; used = at }
-  walk-stops d p q e = walk-step d p q ∙ ap (λ (b : Bool). pick b (walkFrom fl ll (getD l i d .handle) (slotsEnd at (getD l i d)) (drop (suc i) (take n l))) (record { sound = false; last = last; used = at })) e
-
-  pub walk-goes : (d : Record) (s : ℕ) → i < n → n ≤ length l → recordOk fl ll last at (getD l i d) ≡ true → s ≡ slotSize (slotOf (getD l i d .place))
-      → walkFrom fl ll last at (drop i (take n l)) ≡ walkFrom fl ll (getD l i d .handle) (at + s) (drop (i + 1) (take n l))
-  walk-goes d s p q e f =
-      walk-step d p q
-      ∙ ap (λ (b : Bool). pick b (walkFrom fl ll (getD l i d .handle) (slotsEnd at (getD l i d)) (drop (suc i) (take n l))) (record { sound = false; last = last; used = at })) e
-      ∙ rw (f, add-one i)
-
-  pub walk-ends : n ≤ i → n ≤ length l → walkFrom fl ll last at (drop i (take n l)) ≡ record { sound = true; last = last; used = at }
-  unfolding walkFrom
-  walk-ends p q =
-      let k : length (take n l) ≤ i = rw (length-take-le n l) p in
-      rw (drop-of-length-le (take n l) k)
-
--- the slot of a record that keeps the rules ends within the live area
-pub slot-within : (fl ll last at : ℕ) (l : List Record) (i : ℕ) (d : Record) (b : Bool) (s : ℕ) → b ≡ recordOk fl ll last at (getD l i d) → not b ≡ false
-    → s ≡ slotSize (slotOf (getD l i d .place)) → at ≤ ll → at + s ≤ ll
-slot-within fl ll last at l i d b s e k f h =
-    rw f (slot-inside ll at (getD l i d .place) (good fl ll last at (getD l i d) (sym e ∙ not-false b k) .space) h)
-
--- what the walk says of the records
-pub walk-sound : (fl ll last at : ℕ) (rs : List Record) → walkFrom fl ll last at rs .sound ≡ recordsOk fl ll last at rs
-unfolding walkFrom
-walk-sound fl ll last at [] = refl
-walk-sound fl ll last at (r ∷ rs) = by (recordOk fl ll last at r) (walk-sound fl ll (r .handle) (slotsEnd at r) rs)
-  where
-    by : (b : Bool) → walkFrom fl ll (r .handle) (slotsEnd at r) rs .sound ≡ recordsOk fl ll (r .handle) (slotsEnd at r) rs
-        → pick b (walkFrom fl ll (r .handle) (slotsEnd at r) rs) (record { sound = false; last = last; used = at }) .sound
-        ≡ (b && recordsOk fl ll (r .handle) (slotsEnd at r) rs)
-    by true e = e
-    by false e = refl
-
-pub walk-last : (fl ll last at : ℕ) (rs : List Record) → recordsOk fl ll last at rs ≡ true
-    → walkFrom fl ll last at rs ≡ record { sound = true; last = lastHandle last rs; used = used at rs }
-unfolding walkFrom
-walk-last fl ll last at [] e = refl
-walk-last fl ll last at (r ∷ rs) e =
-    let g = both (recordOk fl ll last at r) _ e in
-    ap (λ (b : Bool). pick b (walkFrom fl ll (r .handle) (slotsEnd at r) rs) (record { sound = false; last = last; used = at })) (g .0)
-    ∙ walk-last fl ll (r .handle) (slotsEnd at r) rs (g .1)
+use Rattle.rules.specs.Walks.{walkedTable}
+use Rattle.rules.specs.WalkLaws.{walked-is}
+use Rattle.rules.specs.declared.Walked.{Walked}
+use Rattle.table.specs.Steps.{refusing, withRecord, storedAs, storedAsLive}
 
 -- all 64 records count where the count is above 64
 pub take-most : (n : ℕ) (l : List Record) → length l ≡ 64 → 64 < n → take 64 l ≡ take n l
@@ -142,32 +62,6 @@ module _ (t : Table) (i : ℕ) (r : Record) (v live : List ℕ) where
         em ∙ sym (ap (λ (p : Place). laidAt (start p) v live) e) ∙ sym (ap (λ (o : Outcome). liveBy o (laidAt (start (r .place)) v live) live) k),
       )
 
--- Soundness, at each of its tests.
-module _ (t : Table) (fl ll : ℕ) where
-  pub unsound-count : 64 < t .count → false ≡ soundTable t fl ll
-  unfolding soundTable
-  unsound-count h = rw (lt-leb (t .count) 64 h)
-
-  module _ (few : t .count ≤ 64) where
-    pub unsound-live : 32768 < t .«live_len» → false ≡ soundTable t fl ll
-    unfolding soundTable
-    unsound-live h = rw (le-leb (t .count) 64 few, lt-leb (t .«live_len») 32768 h)
-
-    module _ (most : t .«live_len» ≤ 32768) where
-      pub unsound-fixed-len : (fl ≡ t .«fixed_len» → ⊥) → false ≡ soundTable t fl ll
-      unfolding soundTable
-      unsound-fixed-len h = rw (le-leb (t .count) 64 few, le-leb (t .«live_len») 32768 most, ne-eqb fl (t .«fixed_len») h)
-
-      pub unsound-live-len : fl ≡ t .«fixed_len» → (ll ≡ t .«live_len» → ⊥) → false ≡ soundTable t fl ll
-      unfolding soundTable
-      unsound-live-len e h = rw (le-leb (t .count) 64 few, le-leb (t .«live_len») 32768 most, eq-eqb fl (t .«fixed_len») e, ne-eqb ll (t .«live_len») h)
-
-      pub sound-walk : fl ≡ t .«fixed_len» → ll ≡ t .«live_len» → (w : Walked) → w ≡ walkFrom fl ll 0 0 (entries t) → w .sound ≡ soundTable t fl ll
-      unfolding soundTable
-      sound-walk e f w h =
-          rw (le-leb (t .count) 64 few, le-leb (t .«live_len») 32768 most, eq-eqb fl (t .«fixed_len») e, eq-eqb ll (t .«live_len») f)
-          (ap (λ (x : Walked). x .sound) h ∙ walk-sound fl ll 0 0 (entries t))
-
 -- Adding, at each of its tests.
 module _ (t : Table) (a : Addition) (fl ll : ℕ) where
   refuses : (why : Refusal) → addRefusal t a fl ll ≡ Refused why → refusing t why ≡ added t a fl ll
@@ -183,9 +77,9 @@ module _ (t : Table) (a : Addition) (fl ll : ℕ) where
     unfolding addRefusal
     add-65th h = refuses TableFull (rw (s, le-ltb (t .count) 64 h))
 
-    module _ (free : t .count < 64) (w : Walked) (e : w ≡ walkFrom fl ll 0 0 (entries t)) where
+    module _ (free : t .count < 64) (w : Walked) (e : w ≡ walkedTable t fl ll) where
       walked : w ≡ record { sound = true; last = lastHandle 0 (entries t); used = used 0 (entries t) }
-      walked = e ∙ walk-last fl ll 0 0 (entries t) (sound-parts t fl ll s .records)
+      walked = e ∙ walked-is t fl ll s
 
       last-is : w .last ≡ lastHandle 0 (entries t)
       last-is = ap (λ (x : Walked). x .last) walked

@@ -1,27 +1,17 @@
--- What the private functions of the table answer: the walk over the records, and a store into a record that was found.
+-- What the private functions of the table answer: a refusal, and a store into a record that was found.
 use Prim.Native.Nat.{ℕ}
-use mathlib.Core.Bool.{true, false}
-use mathlib.Core.List.{List, [], _∷_}
+use mathlib.Core.List.{List}
 use lib.ListN.{length, set}
 use Rattle.codec.specs.Buffer.{laidAt}
-use Rattle.codec.specs.Cases.{pick}
 use Rattle.codec.specs.declared.Refusal.{Refusal}
 use Rattle.attributes.specs.Additions.{changedBy}
 use Rattle.attributes.specs.Records.{slotOf, start, lengthened}
-use Rattle.attributes.specs.Soundness.{recordOk, slotsEnd}
 use Rattle.attributes.specs.Stores.{slotRefusal, liveBy}
 use Rattle.attributes.specs.declared.Changed.{Changed}
 use Rattle.attributes.specs.declared.Outcome.the-variants.{Refused}
 use Rattle.attributes.specs.declared.Place.{Place}
 use Rattle.attributes.specs.declared.Record.{Record}
 use Rattle.attributes.specs.declared.Table.{Table}
-use Rattle.table.specs.declared.Walked.{Walked}
-
--- a walk ends at the first record that breaks a rule
-unfoldable pub walkFrom : ℕ → ℕ → ℕ → ℕ → List Record → Walked
-walkFrom fl ll last at [] = record { sound = true; last = last; used = at }
-walkFrom fl ll last at (r ∷ rs) =
-    pick (recordOk fl ll last at r) (walkFrom fl ll (r .handle) (slotsEnd at r) rs) (record { sound = false; last = last; used = at })
 
 abbrev pub refusing : Table → Refusal → Changed
 refusing t why = record { outcome = Refused why; table = t }

@@ -18,12 +18,12 @@ ghost use mathlib.Core.Path.{_≡_};
 ghost use Prim.Native.Nat.{_≤_, _<_};
 ghost use lib.ListN.{length, take, drop};
 ghost use Rattle.codec.specs.Buffer.{laidAt};
-ghost use Rattle.attributes.specs.Records.{entries, valueOf, slotOf, slotSize, lengthened, findIn};
-ghost use Rattle.attributes.specs.Soundness.{typeOk, valueOk, spaceOk, startOk, lengthOk, roomOf, recordOk, soundTable};
+ghost use Rattle.attributes.specs.Records.{entries, valueOf, lengthened, findIn};
+ghost use Rattle.attributes.specs.Soundness.{soundTable};
 ghost use Rattle.attributes.specs.Ledger.{lookupRefusal, lookedUp};
 ghost use Rattle.attributes.specs.Additions.{emptyTable, newTable, freshPlace, fresh, appended, added};
 ghost use Rattle.attributes.specs.Stores.{stored, storedLive};
-ghost use Rattle.table.specs.Steps.{walkFrom, refusing, withRecord, storedAs, storedAsLive};
+ghost use Rattle.table.specs.Steps.{refusing, withRecord, storedAs, storedAsLive};
 
 // A table with no record, for areas of these lengths. A live area over 32,768 bytes is refused, with an
 // empty table for no bytes beside it.
@@ -43,27 +43,17 @@ pub fn new(fixed: &[u8], live: &[u8]) -> Changed
 pub fn sound(t: Table, fixed: &[u8], live: &[u8]) -> bool
     ensures { λ r. ⌜ r ≡ soundTable t (length (now (fixed .entry))) (length (now (live .entry))) ⌝ }
 {
-    sound_for(t, fixed.len(), live.len())
+    let n = fixed.len();
+    let m = live.len();
+    sound_for(t, n, m)
 }
 
 // The same, of the areas' lengths alone: for a caller whose live bytes are lent for change.
 pub fn sound_for(t: Table, fixed_len: usize, live_len: usize) -> bool
     ensures { λ r. ⌜ r ≡ soundTable t «fixed_len» «live_len» ⌝ }
 {
-    if 64 < t.count {
-        return false;
-    }
-    if 32768 < t.live_len {
-        return false;
-    }
-    if fixed_len != t.fixed_len {
-        return false;
-    }
-    if live_len != t.live_len {
-        return false;
-    }
-    let w = walk(t, fixed_len, live_len);
-    w.sound
+    let walked = rules::walk(t, fixed_len, live_len);
+    walked.sound
 }
 
 // An attribute more. The first of the tests 11, 3, 4, 5, 6 and 7 that fails is the refusal.
@@ -72,25 +62,25 @@ pub fn add(t: Table, a: Addition, fixed: &[u8], live: &[u8]) -> Changed
 {
     let fixed_len = fixed.len();
     let live_len = live.len();
-    if !sound_for(t, fixed_len, live_len) {
+    let w = rules::walk(t, fixed_len, live_len);
+    if !w.sound {
         return refuse(t, Refusal::BadTable);
     }
     if 64 <= t.count {
         return refuse(t, Refusal::TableFull);
     }
-    let w = walk(t, fixed_len, live_len);
     if a.handle <= w.last {
         return refuse(t, Refusal::BadHandle);
     }
     let kind = a.kind;
     let room = a.room;
-    if !type_ok(kind) {
+    if !rules::type_ok(kind) {
         return refuse(t, Refusal::BadType);
     }
-    if !value_ok(fixed_len, a.writable, room) {
+    if !rules::value_ok(fixed_len, a.writable, room) {
         return refuse(t, Refusal::BadValue);
     }
-    if !space_ok(live_len, w.used, room) {
+    if !rules::space_ok(live_len, w.used, room) {
         return refuse(t, Refusal::NoRoom);
     }
     let r = record_for(a, w.used);
@@ -155,165 +145,6 @@ pub fn store(t: Table, handle: u16, value: &[u8], fixed: &[u8], live: &mut [u8])
             let r = t.records[i];
             store_record(t, i, r, value, live)
         }
-    }
-}
-
-// The rules of an addition or a record, each as Soundness.antt has it. Sizes are compared by subtraction.
-fn type_ok(kind: Uuid) -> bool
-    ensures { λ r. ⌜ r ≡ typeOk (kind .form) ⌝ }
-{
-    let form = kind.form;
-    match form {
-        Form::Uuid16 => true,
-        Form::Uuid32 => false,
-        Form::Uuid128 => true,
-    }
-}
-
-fn value_ok(fixed_len: usize, writable: bool, room: Room) -> bool
-    ensures { λ r. ⌜ r ≡ valueOk «fixed_len» writable room ⌝ }
-{
-    match room {
-        Room::Fixed { at, len } => {
-            if 512 < len {
-                return false;
-            }
-            if fixed_len < at {
-                return false;
-            }
-            if fixed_len - at < len {
-                return false;
-            }
-            !writable
-        }
-        Room::Live { capacity } => capacity <= 512,
-    }
-}
-
-fn space_ok(live_len: usize, used: usize, room: Room) -> bool
-    ensures { λ r. ⌜ r ≡ spaceOk «live_len» used room ⌝ }
-{
-    match room {
-        Room::Fixed { at: _, len: _ } => true,
-        Room::Live { capacity } => {
-            if live_len < used {
-                return false;
-            }
-            capacity <= live_len - used
-        }
-    }
-}
-
-fn start_ok(used: usize, place: Place) -> bool
-    ensures { λ r. ⌜ r ≡ startOk used place ⌝ }
-{
-    match place {
-        Place::Fixed { at: _, len: _ } => true,
-        Place::Live {
-            at,
-            capacity: _,
-            len: _,
-        } => at == used,
-    }
-}
-
-fn length_ok(place: Place) -> bool
-    ensures { λ r. ⌜ r ≡ lengthOk place ⌝ }
-{
-    match place {
-        Place::Fixed { at: _, len: _ } => true,
-        Place::Live {
-            at: _,
-            capacity,
-            len,
-        } => len <= capacity,
-    }
-}
-
-fn room_of(place: Place) -> Room
-    ensures { λ r. ⌜ r ≡ roomOf place ⌝ }
-{
-    match place {
-        Place::Fixed { at, len } => Room::Fixed { at, len },
-        Place::Live {
-            at: _,
-            capacity,
-            len: _,
-        } => Room::Live { capacity },
-    }
-}
-
-fn slot_size(place: Place) -> usize
-    ensures { λ r. ⌜ r ≡ slotSize (slotOf place) ⌝ }
-{
-    match place {
-        Place::Fixed { at: _, len: _ } => 0,
-        Place::Live {
-            at: _,
-            capacity,
-            len: _,
-        } => capacity,
-    }
-}
-
-// A record behind one with the handle `last`, where the slots so far end at `used`.
-fn record_ok(r: Record, fixed_len: usize, live_len: usize, last: u16, used: usize) -> bool
-    ensures { λ b. ⌜ b ≡ recordOk «fixed_len» «live_len» last used r ⌝ }
-{
-    if r.handle <= last {
-        return false;
-    }
-    let kind = r.kind;
-    if !type_ok(kind) {
-        return false;
-    }
-    let place = r.place;
-    let room = room_of(place);
-    if !value_ok(fixed_len, r.writable, room) {
-        return false;
-    }
-    if !space_ok(live_len, used, room) {
-        return false;
-    }
-    if !start_ok(used, place) {
-        return false;
-    }
-    length_ok(place)
-}
-
-// Whether each record keeps the rules, and the last handle and the end of the slots where each does.
-struct Walked {
-    sound: bool,
-    last: u16,
-    used: usize,
-}
-
-fn walk(t: Table, fixed_len: usize, live_len: usize) -> Walked
-    requires { ⌜ t .count ≤ 64 ⌝ }
-    ensures { λ r. ⌜ r ≡ walkFrom «fixed_len» «live_len» 0 0 (entries t) ⌝ }
-{
-    let n = t.count;
-    let mut last = 0u16;
-    let mut used = 0usize;
-    let mut i = 0usize;
-    while i < n {
-        let r = t.records[i];
-        if !record_ok(r, fixed_len, live_len, last, used) {
-            return Walked {
-                sound: false,
-                last,
-                used,
-            };
-        }
-        let place = r.place;
-        last = r.handle;
-        used += slot_size(place);
-        i += 1;
-    }
-    Walked {
-        sound: true,
-        last,
-        used,
     }
 }
 
@@ -428,8 +259,8 @@ fn value<'a>(place: Place, fixed: &'a [u8], live: &'a [u8]) -> &'a [u8]
         Place::Live {
             at,
             capacity: _,
-            len,
-        } => part(live, at, len),
+            len: held,
+        } => part(live, at, held),
     }
 }
 

@@ -1,8 +1,4 @@
-<<<<<<< HEAD
--- An arm's row computes at the arm's opcode to what its helper tests; the default arm's opcode is that of no row.
-=======
 -- An arm's row computes at the arm's opcode to what its call tests; the default arm's opcode is that of no row.
->>>>>>> 5ddc0168fc44372099deb65ea26547dceac5eb31
 use Rattle.codec.specs.CasesLaws.{None}
 use Rattle.att.specs.Wire.{rows, shapeOf}
 use Rattle.att_strict.proofs.Rows.{strict-missing}

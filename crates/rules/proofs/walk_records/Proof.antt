@@ -8,14 +8,15 @@ use borrow.Author.Needs.{needs}
 use borrow.Author.Tests.{not-true, not-false}
 use lib.ListN.{length, take, drop}
 use Rattle.attributes.specs.ListLaws.{length-mapped}
-use Rattle.table.specs.Steps.{walkFrom}
-use Rattle.table.specs.StepLaws.{walk-stops, walk-goes, walk-ends, slot-within}
-use Rattle.table.proofs.walk.Statement.{statement}
-use Rattle.table.proofs.walk.Tie as tie
-use Rattle.table.proofs.walk.Reads as reads
-use Rattle.table.proofs.walk.Lts as lts
-use Rattle.table.proofs.record_ok.Reads as record-ok-reads
-use Rattle.table.proofs.slot_size.Reads as slot-size-reads
+use Rattle.rules.specs.Walks.{walkFrom}
+use Rattle.rules.specs.WalkLaws.{walk-stops, walk-goes, walk-ends, slot-within}
+use Rattle.rules.proofs.walk_records.Statement.{statement}
+use Rattle.rules.proofs.walk_records.Tie as tie
+use Rattle.rules.proofs.walk_records.Reads as reads
+use Rattle.rules.proofs.walk_records.Lts as lts
+use Rattle.rules.proofs.record_ok.Reads as record-ok-reads
+use Rattle.rules.proofs.slot_size.Reads as slot-size-reads
+use Rattle.rules.proofs.unsound.Reads as unsound-reads
 
 abbrev Inv-loop : tie.InvT-loop
 Inv-loop fixed-len live-len t n last₀ used₀ i₀ last used i =
@@ -43,13 +44,17 @@ element-copy-out-r c = search needs
 record-ok-requires : tie.Need-record-ok-requires Inv-loop μ-loop
 record-ok-requires c κs = search needs
 
--- src/lib.rt:286:13
+-- src/lib.rt:188:13
+unsound-requires : tie.Need-unsound-requires Inv-loop μ-loop
+unsound-requires c κs = search needs
+
+-- src/lib.rt:188:13
 returns : tie.Need-returns Inv-loop μ-loop
 returns c =
-    let l = c .before .before .before .before in
+    let l = c .before .before .before .before .before in
     let a = l .before .args in
-    sym (l .loop .inv .2 ∙ walk-stops (a .fixed-len) (a .live-len) (l .loop .last) (l .loop .used) (l .loop .i) (a .t1 .count) (a .t1 .records) _ (omega arith) (long (l .before))
-    (sym (c .before .record-ok .ensures) ∙ not-true _ (c .if1 .taken)))
+    c .unsound .ensures ∙ sym (l .loop .inv .2 ∙ walk-stops (a .fixed-len) (a .live-len) (l .loop .last) (l .loop .used) (l .loop .i) (a .t1 .count) (a .t1 .records) _ (omega arith) (long (l .before))
+    (sym (c .before .before .record-ok .ensures) ∙ not-true _ (c .before .if1 .taken)))
 
 -- src/lib.rt:294:17
 slot-size-requires : tie.Need-slot-size-requires Inv-loop μ-loop
@@ -91,8 +96,8 @@ returns-2 c =
     let a = l .before .args in
     sym (l .loop .inv .2 ∙ walk-ends (a .fixed-len) (a .live-len) (l .loop .last) (l .loop .used) (l .loop .i) (a .t1 .count) (a .t1 .records) (omega arith) (long (l .before)))
 
-pub walk-spec : {M : Type 1} → statement M
-walk-spec =
+pub walk-records-spec : {M : Type 1} → statement M
+walk-records-spec =
     tie.close
     (tie.spec
     Inv-loop
@@ -101,6 +106,7 @@ walk-spec =
     mul-r
     element-copy-out-r
     record-ok-requires
+    unsound-requires
     returns
     slot-size-requires
     add-used

@@ -1,10 +1,10 @@
 use native.Mathlib.Omega.{arith}
-use Rattle.table.specs.StepLaws.{value-long, value-outside, value-inside, value-live}
+use Rattle.rules.specs.WalkLaws.{value-long, value-outside, value-inside, value-live}
 use borrow.Author.Needs.{needs}
-use Rattle.table.proofs.value_ok.Statement.{statement}
-use Rattle.table.proofs.value_ok.Tie as tie
-use Rattle.table.proofs.value_ok.Reads as reads
-use Rattle.table.proofs.value_ok.Lts as lts
+use Rattle.rules.proofs.value_ok.Statement.{statement}
+use Rattle.rules.proofs.value_ok.Tie as tie
+use Rattle.rules.proofs.value_ok.Reads as reads
+use Rattle.rules.proofs.value_ok.Lts as lts
 
 -- src/lib.rt:177:23
 enum-known-room : tie.Need-enum-known-room

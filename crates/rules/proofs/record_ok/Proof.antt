@@ -6,16 +6,16 @@ use lib.Dec.{ltb}
 use borrow.Author.Tests.{le-ltb, lt-ltb, not-true, not-false}
 use Rattle.attributes.specs.Soundness.{typeOk, valueOk, spaceOk, startOk, roomOf}
 use borrow.Author.Needs.{needs}
-use Rattle.table.proofs.record_ok.Statement.{statement}
-use Rattle.table.proofs.record_ok.Tie as tie
-use Rattle.table.proofs.record_ok.Reads as reads
-use Rattle.table.proofs.record_ok.Lts as lts
-use Rattle.table.proofs.length_ok.Reads as length-ok-reads
-use Rattle.table.proofs.room_of.Reads as room-of-reads
-use Rattle.table.proofs.space_ok.Reads as space-ok-reads
-use Rattle.table.proofs.start_ok.Reads as start-ok-reads
-use Rattle.table.proofs.type_ok.Reads as type-ok-reads
-use Rattle.table.proofs.value_ok.Reads as value-ok-reads
+use Rattle.rules.proofs.record_ok.Statement.{statement}
+use Rattle.rules.proofs.record_ok.Tie as tie
+use Rattle.rules.proofs.record_ok.Reads as reads
+use Rattle.rules.proofs.record_ok.Lts as lts
+use Rattle.rules.proofs.length_ok.Reads as length-ok-reads
+use Rattle.rules.proofs.room_of.Reads as room-of-reads
+use Rattle.rules.proofs.space_ok.Reads as space-ok-reads
+use Rattle.rules.proofs.start_ok.Reads as start-ok-reads
+use Rattle.rules.proofs.type_ok.Reads as type-ok-reads
+use Rattle.rules.proofs.value_ok.Reads as value-ok-reads
 
 -- what is known behind each test
 rises : (c : tie.Else1) → ltb (c .before .before .args .last) (c .before .before .args .r .handle) ≡ true

@@ -1,10 +1,10 @@
 use mathlib.Core.Path.{ap, sym}
 use Rattle.attributes.specs.Soundness.{startOk}
 use borrow.Author.Needs.{needs}
-use Rattle.table.proofs.start_ok.Statement.{statement}
-use Rattle.table.proofs.start_ok.Tie as tie
-use Rattle.table.proofs.start_ok.Reads as reads
-use Rattle.table.proofs.start_ok.Lts as lts
+use Rattle.rules.proofs.start_ok.Statement.{statement}
+use Rattle.rules.proofs.start_ok.Tie as tie
+use Rattle.rules.proofs.start_ok.Reads as reads
+use Rattle.rules.proofs.start_ok.Lts as lts
 
 -- src/lib.rt:211:43
 enum-told : tie.Need-enum-told

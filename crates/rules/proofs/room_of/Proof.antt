@@ -1,10 +1,10 @@
 use mathlib.Core.Path.{ap, sym}
 use Rattle.attributes.specs.Soundness.{roomOf}
 use borrow.Author.Needs.{needs}
-use Rattle.table.proofs.room_of.Statement.{statement}
-use Rattle.table.proofs.room_of.Tie as tie
-use Rattle.table.proofs.room_of.Reads as reads
-use Rattle.table.proofs.room_of.Lts as lts
+use Rattle.rules.proofs.room_of.Statement.{statement}
+use Rattle.rules.proofs.room_of.Tie as tie
+use Rattle.rules.proofs.room_of.Reads as reads
+use Rattle.rules.proofs.room_of.Lts as lts
 
 -- src/lib.rt:229:24
 enum-known-place : tie.Need-enum-known-place

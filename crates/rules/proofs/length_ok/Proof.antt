@@ -1,10 +1,10 @@
 use mathlib.Core.Path.{ap, sym}
 use Rattle.attributes.specs.Soundness.{lengthOk}
 use borrow.Author.Needs.{needs}
-use Rattle.table.proofs.length_ok.Statement.{statement}
-use Rattle.table.proofs.length_ok.Tie as tie
-use Rattle.table.proofs.length_ok.Reads as reads
-use Rattle.table.proofs.length_ok.Lts as lts
+use Rattle.rules.proofs.length_ok.Statement.{statement}
+use Rattle.rules.proofs.length_ok.Tie as tie
+use Rattle.rules.proofs.length_ok.Reads as reads
+use Rattle.rules.proofs.length_ok.Lts as lts
 
 -- src/lib.rt:220:43
 enum-told : tie.Need-enum-told

@@ -1,10 +1,10 @@
 use native.Mathlib.Omega.{arith}
-use Rattle.table.specs.StepLaws.{space-none, space-left}
+use Rattle.rules.specs.WalkLaws.{space-none, space-left}
 use borrow.Author.Needs.{needs}
-use Rattle.table.proofs.space_ok.Statement.{statement}
-use Rattle.table.proofs.space_ok.Tie as tie
-use Rattle.table.proofs.space_ok.Reads as reads
-use Rattle.table.proofs.space_ok.Lts as lts
+use Rattle.rules.proofs.space_ok.Statement.{statement}
+use Rattle.rules.proofs.space_ok.Tie as tie
+use Rattle.rules.proofs.space_ok.Reads as reads
+use Rattle.rules.proofs.space_ok.Lts as lts
 
 -- src/lib.rt:197:42
 enum-told : tie.Need-enum-told
