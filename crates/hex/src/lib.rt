@@ -31,13 +31,13 @@ pub enum Handle {
 }
 
 // How many digits a text has, where it has nothing else.
-pub enum Scan {
+enum Scan {
     Digits(usize),
     Other,
 }
 
 // The value of a hexadecimal digit, or 16.
-pub fn digit(c: u8) -> u8
+fn digit(c: u8) -> u8
     ensures { λ r. ⌜ r ≡ Hex·digit c ⌝ }
 {
     match c {

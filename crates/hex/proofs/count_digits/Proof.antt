@@ -8,10 +8,6 @@ use Rattle.hex.specs.Hex.{without}
 use Rattle.hex.specs.HexLaws.{scanned, scanned-digit, scanned-other, scanned-none}
 use Rattle.hex.proofs.count_digits.Statement.{statement}
 use Rattle.hex.proofs.count_digits.Tie as tie
-use Rattle.hex.proofs.count_digits.Reads as reads
-use Rattle.hex.proofs.count_digits.Lts as lts
-use Rattle.hex.proofs.digit.Reads as digit-reads
-use Rattle.hex.proofs.skip.Reads as skip-reads
 
 abbrev Inv-loop : tie.InvT-loop
 Inv-loop text a b n₀ i₀ n i =
@@ -23,25 +19,20 @@ Inv-loop text a b n₀ i₀ n i =
 abbrev μ-loop : tie.MeasureT-loop
 μ-loop text a b n₀ i₀ n i = length text - i
 
--- src/lib.rt:64:9
 skip-requires : tie.Need-skip-requires Inv-loop μ-loop
 skip-requires c κs = omega arith
 
--- src/lib.rt:65:5
 loop-holds : tie.Need-loop-holds Inv-loop μ-loop
 loop-holds c =
     let s = c .skip .ensures in
     (s .inside, (omega arith, (s .kept, ap (scanned 0) (sym (s .same)))))
 
--- src/lib.rt:66:24
 shared-slice-read-digit : tie.Need-shared-slice-read-digit Inv-loop μ-loop
 shared-slice-read-digit c = omega arith
 
--- src/lib.rt:66:18
 digit-requires : tie.Need-digit-requires Inv-loop μ-loop
 digit-requires c κs = tt
 
--- src/lib.rt:67:13
 returns : tie.Need-returns Inv-loop μ-loop
 returns c =
     let l = c .before .before .before .before in
@@ -50,23 +41,18 @@ returns c =
     (l .loop .inv .1 .1 .1
     ∙ scanned-other (l .loop .n) _ _ _ (l .loop .inv .1 .1 .0 (omega arith)) (omega arith))
 
--- src/lib.rt:69:9
 add-n : tie.Need-add-n Inv-loop μ-loop
 add-n c = omega arith
 
--- src/lib.rt:70:24
 add-skip : tie.Need-add-skip Inv-loop μ-loop
 add-skip c = omega arith
 
--- src/lib.rt:70:9
 skip-requires-2 : tie.Need-skip-requires-2 Inv-loop μ-loop
 skip-requires-2 c κs = omega arith
 
--- src/lib.rt:65:5
 loop-less : tie.Need-loop-less Inv-loop μ-loop
 loop-less c = omega arith
 
--- src/lib.rt:65:5
 loop-again : tie.Need-loop-again Inv-loop μ-loop
 loop-again c =
     let s = c .skip2 .ensures in
@@ -84,7 +70,6 @@ loop-again c =
       ),
     )
 
--- src/lib.rt:60:1
 returns-2 : tie.Need-returns-2 Inv-loop μ-loop
 returns-2 c =
     let l = c .before in

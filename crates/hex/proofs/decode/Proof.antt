@@ -8,10 +8,6 @@ use Rattle.hex.specs.HexLaws.{digits-other, digits-odd, digits-long, dig
 use borrow.Author.Needs.{needs}
 use Rattle.hex.proofs.decode.Statement.{statement}
 use Rattle.hex.proofs.decode.Tie as tie
-use Rattle.hex.proofs.decode.Reads as reads
-use Rattle.hex.proofs.decode.Lts as lts
-use Rattle.hex.proofs.count_digits.Reads as count-digits-reads
-use Rattle.hex.proofs.fill.Reads as fill-reads
 
 -- the text without the characters passed over, and the lent buffer
 abbrev kept : tie.After-count-digits → List ℕ
@@ -20,33 +16,27 @@ kept c = let a = c .before .before .before .args in without (a .a) (a .b) (a .te
 abbrev lent : tie.After-count-digits → List ℕ
 lent c = c .before .before .before .args .out .now
 
--- src/lib.rt:117:11
 count-digits-requires : tie.Need-count-digits-requires
 count-digits-requires c κs = search needs
 
--- src/lib.rt:118:24
 enum-told : tie.Need-enum-told
 enum-told c = search needs
 
--- src/lib.rt:119:22
 enum-known-n : tie.Need-enum-known-n
 enum-known-n c = search needs
 
--- src/lib.rt:121:17
 returns : tie.Need-returns
 returns c =
     let k = c .before .before in
     let d = k .before .before in
     digits-odd (kept d) (lent d) _ (sym (d .count-digits .ensures) ∙ k .n .given .1) (c .if1 .taken)
 
--- src/lib.rt:124:17
 returns-2 : tie.Need-returns-2
 returns-2 c =
     let k = c .before .before .before in
     let d = k .before .before in
     digits-long (kept d) (lent d) _ (sym (d .count-digits .ensures) ∙ k .n .given .1) (c .before .if1 .left) (c .if2 .taken)
 
--- src/lib.rt:126:13
 fill-requires : tie.Need-fill-requires
 fill-requires c κs =
     let k = c .before .before .before .before in
@@ -54,17 +44,14 @@ fill-requires c κs =
     let e = sym (d .count-digits .ensures) ∙ k .n .given .1 in
     (scan-digits (kept d) _ e .0, digits-fit (kept d) (lent d) _ e (c .before .if2 .left))
 
--- src/lib.rt:113:1
 returns-3 : tie.Need-returns-3
 returns-3 c =
     let d = c .before .before in
     digits-other (kept d) (lent d) (sym (d .count-digits .ensures) ∙ c .enum-told .given .1)
 
--- src/lib.rt:113:1
 same-length : tie.Need-same-length
 same-length c = search needs
 
--- src/lib.rt:113:1
 returns-4 : tie.Need-returns-4
 returns-4 c =
     let f = c .before .before in

@@ -5,42 +5,31 @@ use Rattle.hex.specs.HexLaws.{digit-low, digit-upper, digit-lower, digit
 use borrow.Author.Needs.{needs}
 use Rattle.hex.proofs.digit.Statement.{statement}
 use Rattle.hex.proofs.digit.Tie as tie
-use Rattle.hex.proofs.digit.Reads as reads
-use Rattle.hex.proofs.digit.Lts as lts
 
--- src/lib.rt:35:24
 sub-result : tie.Need-sub-result
 sub-result c = search needs
 
--- src/lib.rt:36:24
 sub-result-2 : tie.Need-sub-result-2
 sub-result-2 c = search needs
 
--- src/lib.rt:30:1
 returns : tie.Need-returns
 returns c = sym (digit-low _ (omega arith) (omega arith))
 
--- src/lib.rt:30:1
 returns-2 : tie.Need-returns-2
 returns-2 c = sym (digit-upper _ (omega arith) (omega arith))
 
--- src/lib.rt:30:1
 returns-3 : tie.Need-returns-3
 returns-3 c = sym (digit-lower _ (omega arith) (omega arith))
 
--- src/lib.rt:30:1
 returns-4 : tie.Need-returns-4
 returns-4 c = sym (digit-first _ (omega arith))
 
--- src/lib.rt:30:1
 returns-5 : tie.Need-returns-5
 returns-5 c = sym (digit-second _ (omega arith) (omega arith))
 
--- src/lib.rt:30:1
 returns-6 : tie.Need-returns-6
 returns-6 c = sym (digit-third _ (omega arith) (omega arith))
 
--- src/lib.rt:30:1
 returns-7 : tie.Need-returns-7
 returns-7 c = sym (digit-last _ (omega arith))
 

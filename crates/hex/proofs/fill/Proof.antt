@@ -8,10 +8,6 @@ use Rattle.hex.specs.Hex.{without, values, pairs, below}
 use Rattle.hex.specs.HexLaws.{Filling, Two, next-two, odd-one, none-left, all-put, one-more}
 use Rattle.hex.proofs.fill.Statement.{statement}
 use Rattle.hex.proofs.fill.Tie as tie
-use Rattle.hex.proofs.fill.Reads as reads
-use Rattle.hex.proofs.fill.Lts as lts
-use Rattle.hex.proofs.digit.Reads as digit-reads
-use Rattle.hex.proofs.skip.Reads as skip-reads
 
 abbrev Inv-loop : tie.InvT-loop
 Inv-loop text a b out₀ at₀ i₀ out at i = (length (pairs (values (without a b text))) ≤ length out₀) × Filling a b text (pairs (values (without a b text))) out₀ out at i
@@ -30,11 +26,9 @@ twos c =
     let a = l .before .before .before .before .args in
     next-two (a .a) (a .b) (l .loop .at) (l .loop .i) (a .text .now) _ _ _ (l .loop .inv .1) (omega arith) _ (c .before .skip2 .ensures) (omega arith)
 
--- src/lib.rt:100:9
 skip-requires : tie.Need-skip-requires Inv-loop μ-loop
 skip-requires c κs = omega arith
 
--- src/lib.rt:101:5
 loop-holds : tie.Need-loop-holds Inv-loop μ-loop
 loop-holds c =
     let s = c .skip .ensures in (
@@ -50,19 +44,15 @@ loop-holds c =
       },
     )
 
--- src/lib.rt:102:28
 add-skip : tie.Need-add-skip Inv-loop μ-loop
 add-skip c = omega arith
 
--- src/lib.rt:102:13
 skip-requires-2 : tie.Need-skip-requires-2 Inv-loop μ-loop
 skip-requires-2 c κs = omega arith
 
--- src/lib.rt:104:13
 same-length : tie.Need-same-length Inv-loop μ-loop
 same-length c = omega arith
 
--- src/lib.rt:104:13
 returns : tie.Need-returns Inv-loop μ-loop
 returns c =
     let l = c .before .before .before in
@@ -70,51 +60,39 @@ returns c =
     let f = l .loop .inv .1 in
     all-put _ _ _ _ (f .room) (odd-one (a .a) (a .b) (l .loop .at) (l .loop .i) (a .text .now) _ _ _ f (omega arith) _ (c .before .skip2 .ensures) (c .if1 .taken)) (f .put)
 
--- src/lib.rt:106:25
 shared-slice-read-digit : tie.Need-shared-slice-read-digit Inv-loop μ-loop
 shared-slice-read-digit c = omega arith
 
--- src/lib.rt:106:19
 digit-requires : tie.Need-digit-requires Inv-loop μ-loop
 digit-requires c κs = tt
 
--- src/lib.rt:106:19
 mul-out : tie.Need-mul-out Inv-loop μ-loop
 mul-out c = omega (arith, twos (c .before .before) .upper)
 
--- src/lib.rt:106:47
 shared-slice-read-digit-2 : tie.Need-shared-slice-read-digit-2 Inv-loop μ-loop
 shared-slice-read-digit-2 c = omega arith
 
--- src/lib.rt:106:41
 digit-requires-2 : tie.Need-digit-requires-2 Inv-loop μ-loop
 digit-requires-2 c κs = tt
 
--- src/lib.rt:106:19
 add-out : tie.Need-add-out Inv-loop μ-loop
 add-out c = omega (arith, twos (c .before .before .before .before) .upper, twos (c .before .before .before .before) .lower)
 
--- src/lib.rt:106:9
 slice-write-out : tie.Need-slice-write-out Inv-loop μ-loop
 slice-write-out c = omega (arith, twos (c .before .before .before .before) .inside)
 
--- src/lib.rt:107:9
 add-at : tie.Need-add-at Inv-loop μ-loop
 add-at c = omega arith
 
--- src/lib.rt:108:24
 add-skip-2 : tie.Need-add-skip-2 Inv-loop μ-loop
 add-skip-2 c = omega arith
 
--- src/lib.rt:108:9
 skip-requires-3 : tie.Need-skip-requires-3 Inv-loop μ-loop
 skip-requires-3 c κs = omega arith
 
--- src/lib.rt:101:5
 loop-less : tie.Need-loop-less Inv-loop μ-loop
 loop-less c = omega arith
 
--- src/lib.rt:101:5
 loop-again : tie.Need-loop-again Inv-loop μ-loop
 loop-again c =
     let s = c .skip3 .ensures in
@@ -134,11 +112,9 @@ loop-again c =
       },
     )
 
--- src/lib.rt:94:1
 same-length-2 : tie.Need-same-length-2 Inv-loop μ-loop
 same-length-2 c = omega arith
 
--- src/lib.rt:94:1
 returns-2 : tie.Need-returns-2 Inv-loop μ-loop
 returns-2 c =
     let l = c .before in

@@ -5,40 +5,31 @@ use Rattle.hex.specs.Hex.{outline}
 use borrow.Author.Needs.{needs}
 use Rattle.hex.proofs.outline.Statement.{statement}
 use Rattle.hex.proofs.outline.Tie as tie
-use Rattle.hex.proofs.outline.Reads as reads
-use Rattle.hex.proofs.outline.Lts as lts
 
--- src/lib.rt:216:9
 returns : tie.Need-returns
 unfolding outline
 returns c = (rw (eq-eqb _ _ (c .if1 .taken)), omega arith)
 
--- src/lib.rt:219:9
 returns-2 : tie.Need-returns-2
 unfolding outline
 returns-2 c = (rw (ne-eqb _ _ (c .before .if1 .left), eq-eqb _ _ (c .if2 .taken)), omega arith)
 
--- src/lib.rt:222:9
 returns-3 : tie.Need-returns-3
 unfolding outline
 returns-3 c = (rw (ne-eqb _ _ (c .before .before .if1 .left), ne-eqb _ _ (c .before .if2 .left), ne-eqb _ _ (c .if3 .taken)), omega arith)
 
--- src/lib.rt:224:8
 shared-slice-read-if4 : tie.Need-shared-slice-read-if4
 shared-slice-read-if4 c = search needs
 
--- src/lib.rt:225:9
 returns-4 : tie.Need-returns-4
 unfolding outline
 returns-4 c =
     let e = c .before .before in
     (rw (ne-eqb _ _ (e .before .before .if1 .left), ne-eqb _ _ (e .before .if2 .left), eq-eqb _ _ (e .if3 .left), ne-eqb _ _ (c .if4 .taken)), omega arith)
 
--- src/lib.rt:227:8
 shared-slice-read-if5 : tie.Need-shared-slice-read-if5
 shared-slice-read-if5 c = search needs
 
--- src/lib.rt:228:9
 returns-5 : tie.Need-returns-5
 unfolding outline
 returns-5 c =
@@ -49,11 +40,9 @@ returns-5 c =
       omega arith,
     )
 
--- src/lib.rt:230:8
 shared-slice-read-if6 : tie.Need-shared-slice-read-if6
 shared-slice-read-if6 c = search needs
 
--- src/lib.rt:231:9
 returns-6 : tie.Need-returns-6
 unfolding outline
 returns-6 c =
@@ -65,11 +54,9 @@ returns-6 c =
       omega arith,
     )
 
--- src/lib.rt:233:8
 shared-slice-read-if7 : tie.Need-shared-slice-read-if7
 shared-slice-read-if7 c = search needs
 
--- src/lib.rt:234:9
 returns-7 : tie.Need-returns-7
 unfolding outline
 returns-7 c =
@@ -82,7 +69,6 @@ returns-7 c =
       omega arith,
     )
 
--- src/lib.rt:211:1
 returns-8 : tie.Need-returns-8
 unfolding outline
 returns-8 c =

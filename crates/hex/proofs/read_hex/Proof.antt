@@ -4,30 +4,21 @@ use Rattle.hex.specs.HexLaws.{hex-dash, hex-digits}
 use borrow.Author.Needs.{needs}
 use Rattle.hex.proofs.read_hex.Statement.{statement}
 use Rattle.hex.proofs.read_hex.Tie as tie
-use Rattle.hex.proofs.read_hex.Reads as reads
-use Rattle.hex.proofs.read_hex.Lts as lts
-use Rattle.hex.proofs.decode.Reads as decode-reads
-use Rattle.hex.proofs.is_dash.Reads as is-dash-reads
 
--- src/lib.rt:137:8
 is-dash-requires : tie.Need-is-dash-requires
 is-dash-requires c κs = search needs
 
--- src/lib.rt:138:9
 returns : tie.Need-returns
 returns c =
     let a = c .before .before .before .before .args in
     hex-dash (a .text .now) (a .out .now) (sym (c .before .is-dash .ensures) ∙ c .if1 .taken)
 
--- src/lib.rt:140:5
 decode-requires : tie.Need-decode-requires
 decode-requires c κs = search needs
 
--- src/lib.rt:133:1
 same-length : tie.Need-same-length
 same-length c = search needs
 
--- src/lib.rt:133:1
 returns-2 : tie.Need-returns-2
 returns-2 c =
     let d = c .before .before in

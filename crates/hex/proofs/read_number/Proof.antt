@@ -7,10 +7,6 @@ use Rattle.hex.specs.Hex.{digit, values, numberOf}
 use Rattle.hex.specs.HexLaws.{numbered, number-starts, number-empty, number-digit, number-other, number-over, number-ends, fits-div, over-div}
 use Rattle.hex.proofs.read_number.Statement.{statement}
 use Rattle.hex.proofs.read_number.Tie as tie
-use Rattle.hex.proofs.read_number.Reads as reads
-use Rattle.hex.proofs.read_number.Lts as lts
-use Rattle.hex.proofs.digit.Reads as digit-reads
-use Rattle.hex.proofs.wide.Reads as wide-reads
 
 abbrev Inv-loop : tie.InvT-loop
 Inv-loop word base most v₀ i₀ v i = (i ≤ length word) × ((v ≤ most) × (numberOf base most word ≡ numbered base most v (values (drop i word))))
@@ -29,38 +25,31 @@ fits c =
     let s = l .before .before .before in
     fits-div (s .args .base) (s .args .most) (l .loop .v) (w .wide .result) (s .pre) (c .if4 .left) (omega arith)
 
--- src/lib.rt:161:9
 returns : tie.Need-returns Inv-loop μ-loop
 returns c =
     let a = c .before .before .args in
     number-empty (a .base) (a .most) (a .word .now) (omega arith)
 
--- src/lib.rt:165:5
 loop-holds : tie.Need-loop-holds Inv-loop μ-loop
 loop-holds c =
     let a = c .before .before .args in
     (omega arith, (omega arith, number-starts (a .base) (a .most) (a .word .now) (omega arith)))
 
--- src/lib.rt:166:28
 shared-slice-read-digit : tie.Need-shared-slice-read-digit Inv-loop μ-loop
 shared-slice-read-digit c = omega arith
 
--- src/lib.rt:166:22
 digit-requires : tie.Need-digit-requires Inv-loop μ-loop
 digit-requires c κs = tt
 
--- src/lib.rt:166:13
 wide-requires : tie.Need-wide-requires Inv-loop μ-loop
 wide-requires c κs = tt
 
--- src/lib.rt:168:13
 returns-2 : tie.Need-returns-2 Inv-loop μ-loop
 returns-2 c =
     let l = c .before .before .before .before .before in
     let a = l .before .before .before .args in
     sym (l .loop .inv .1 .1 ∙ number-other (a .base) (a .most) (l .loop .v) (l .loop .i) (a .word .now) (omega arith) (omega arith))
 
--- src/lib.rt:171:13
 returns-3 : tie.Need-returns-3 Inv-loop μ-loop
 returns-3 c =
     let l = c .before .before .before .before .before .before in
@@ -68,11 +57,9 @@ returns-3 c =
     let a = s .args in
     sym (l .loop .inv .1 .1 ∙ number-over (a .base) (a .most) (l .loop .v) (l .loop .i) (a .word .now) (omega arith) (s .pre) (omega arith) (omega arith))
 
--- src/lib.rt:173:12
 div-if4 : tie.Need-div-if4 Inv-loop μ-loop
 div-if4 c = omega arith
 
--- src/lib.rt:174:13
 returns-4 : tie.Need-returns-4 Inv-loop μ-loop
 returns-4 c =
     let w = c .before .before .before in
@@ -84,23 +71,18 @@ returns-4 c =
     ∙ number-over (a .base) (a .most) (l .loop .v) (l .loop .i) (a .word .now) (omega arith) (s .pre) (omega arith)
     (omega (arith, over-div (a .base) (a .most) (l .loop .v) (w .wide .result) (s .pre) (c .if4 .taken))))
 
--- src/lib.rt:176:13
 mul-v : tie.Need-mul-v Inv-loop μ-loop
 mul-v c = omega (arith, fits c)
 
--- src/lib.rt:176:13
 add-v : tie.Need-add-v Inv-loop μ-loop
 add-v c = omega (arith, fits c)
 
--- src/lib.rt:177:9
 add-i : tie.Need-add-i Inv-loop μ-loop
 add-i c = omega arith
 
--- src/lib.rt:165:5
 loop-less : tie.Need-loop-less Inv-loop μ-loop
 loop-less c = omega arith
 
--- src/lib.rt:165:5
 loop-again : tie.Need-loop-again Inv-loop μ-loop
 loop-again c =
     let w = c .before .before .before in
@@ -117,7 +99,6 @@ loop-again c =
       ),
     )
 
--- src/lib.rt:156:1
 returns-5 : tie.Need-returns-5 Inv-loop μ-loop
 returns-5 c =
     let l = c .before in

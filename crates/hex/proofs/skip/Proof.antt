@@ -8,8 +8,6 @@ use Rattle.hex.specs.Hex.{without}
 use Rattle.hex.specs.HexLaws.{Skipped, over-a, over-b, keeps}
 use Rattle.hex.proofs.skip.Statement.{statement}
 use Rattle.hex.proofs.skip.Tie as tie
-use Rattle.hex.proofs.skip.Reads as reads
-use Rattle.hex.proofs.skip.Lts as lts
 
 abbrev Inv-loop : tie.InvT-loop
 Inv-loop text from a b i₀ i = (from ≤ i) × ((i ≤ length text) × (without a b (drop i text) ≡ without a b (drop from text)))
@@ -17,15 +15,12 @@ Inv-loop text from a b i₀ i = (from ≤ i) × ((i ≤ length text) × (without
 abbrev μ-loop : tie.MeasureT-loop
 μ-loop text from a b i₀ i = length text - i
 
--- src/lib.rt:47:5
 loop-holds : tie.Need-loop-holds Inv-loop μ-loop
 loop-holds c = (omega arith, (omega arith, refl))
 
--- src/lib.rt:48:17
 shared-slice-read-c : tie.Need-shared-slice-read-c Inv-loop μ-loop
 shared-slice-read-c c = omega arith
 
--- src/lib.rt:51:17
 returns : tie.Need-returns Inv-loop μ-loop
 returns c =
     let l = c .before .before .before .before in
@@ -37,15 +32,12 @@ returns c =
       kept = λ h. keeps (a .a) (a .b) (l .loop .i) (a .text .now) h (c .before .if1 .taken) (c .if2 .taken);
     }
 
--- src/lib.rt:54:9
 add-i : tie.Need-add-i Inv-loop μ-loop
 add-i c = omega arith
 
--- src/lib.rt:47:5
 loop-less : tie.Need-loop-less Inv-loop μ-loop
 loop-less c = omega arith
 
--- src/lib.rt:47:5
 loop-again : tie.Need-loop-again Inv-loop μ-loop
 loop-again c =
     let l = c .before .before .before in
@@ -61,7 +53,6 @@ loop-again c =
       ),
     )
 
--- src/lib.rt:42:1
 returns-2 : tie.Need-returns-2 Inv-loop μ-loop
 returns-2 c =
     let l = c .before in

@@ -8,12 +8,6 @@ use Rattle.hex.specs.HexLaws.{type-not, type-long, type-other, type-is}
 use borrow.Author.Needs.{needs}
 use Rattle.hex.proofs.type_bytes.Statement.{statement}
 use Rattle.hex.proofs.type_bytes.Tie as tie
-use Rattle.hex.proofs.type_bytes.Reads as reads
-use Rattle.hex.proofs.type_bytes.Lts as lts
-use Rattle.bytes.proofs.reverse.Reads as reverse-reads
-use Rattle.hex.proofs.decode.Reads as decode-reads
-use Rattle.hex.proofs.no_type.Reads as no-type-reads
-use Rattle.hex.proofs.outline.Reads as outline-reads
 
 -- what the word's digits mean, and the number of bytes that its outline asks for
 abbrev means : tie.After-decode → Meaning
@@ -26,58 +20,45 @@ answer : (d : tie.After-decode) → rawOf (typeFrom (asked d) (means d)) ≡ raw
 unfolding typeBytes
 answer d = ap (λ (n : ℕ). rawOf (typeFrom n (means d))) (d .before .before .outline .ensures .0)
 
--- src/lib.rt:252:9
 outline-requires : tie.Need-outline-requires
 outline-requires c κs = search needs
 
--- src/lib.rt:254:32
 slice-aggregate-decode : tie.Need-slice-aggregate-decode
 slice-aggregate-decode c = search needs
 
--- src/lib.rt:254:11
 decode-requires : tie.Need-decode-requires
 decode-requires c κs = search needs
 
--- src/lib.rt:255:20
 enum-known-k : tie.Need-enum-known-k
 enum-known-k c = search needs
 
--- src/lib.rt:257:17
 no-type-requires : tie.Need-no-type-requires
 no-type-requires c κs = search needs
 
--- src/lib.rt:257:17
 returns : tie.Need-returns
 returns c =
     let k = c .before .before .before in
     let d = k .before .before .before in
     c .no-type .ensures ∙ type-other (asked d) (means d) _ (sym (k .k .given .1) ∙ d .decode .ensures .0) (c .before .if1 .taken) ∙ answer d
 
--- src/lib.rt:259:28
 slice-aggregate-reverse : tie.Need-slice-aggregate-reverse
 slice-aggregate-reverse c = search needs
 
--- src/lib.rt:259:13
 reverse-requires : tie.Need-reverse-requires
 reverse-requires c κs = search needs
 
--- src/lib.rt:262:24
 enum-told : tie.Need-enum-told
 enum-told c = search needs
 
--- src/lib.rt:262:24
 no-type-requires-2 : tie.Need-no-type-requires-2
 no-type-requires-2 c κs = search needs
 
--- src/lib.rt:263:25
 enum-told-2 : tie.Need-enum-told-2
 enum-told-2 c = search needs
 
--- src/lib.rt:263:25
 no-type-requires-3 : tie.Need-no-type-requires-3
 no-type-requires-3 c κs = search needs
 
--- src/lib.rt:249:1
 returns-2 : tie.Need-returns-2
 returns-2 c =
     let e = c .before .before .before in
@@ -85,13 +66,11 @@ returns-2 c =
     let d = k .before .before .before in
     type-is (asked d) (means d) _ (sym (k .k .given .1) ∙ d .decode .ensures .0) (e .if1 .left) _ _ (d .decode .ensures .1) (c .before .reverse .ensures) ∙ answer d
 
--- src/lib.rt:249:1
 returns-3 : tie.Need-returns-3
 returns-3 c =
     let d = c .before .before .before .before in
     c .no-type2 .ensures ∙ type-not (asked d) (means d) (sym (c .before .enum-told .given .1) ∙ d .decode .ensures .0) ∙ answer d
 
--- src/lib.rt:249:1
 returns-4 : tie.Need-returns-4
 returns-4 c =
     let d = c .before .before .before .before in

@@ -6,32 +6,24 @@ use Rattle.lines.specs.LinesLaws.{no-characters, cr-ends, other-ends}
 use borrow.Author.Needs.{needs}
 use Rattle.lines.proofs.chomp.Statement.{statement}
 use Rattle.lines.proofs.chomp.Tie as tie
-use Rattle.lines.proofs.chomp.Reads as reads
-use Rattle.lines.proofs.chomp.Lts as lts
 
--- src/lib.rt:51:9
 returns : tie.Need-returns
 returns c = (no-characters (c .before .args .line .now) (omega arith), omega arith)
 
--- src/lib.rt:53:13
 sub-if2 : tie.Need-sub-if2
 sub-if2 c = search needs
 
--- src/lib.rt:53:8
 shared-slice-read-if2 : tie.Need-shared-slice-read-if2
 shared-slice-read-if2 c = search needs
 
--- src/lib.rt:54:16
 sub-result : tie.Need-sub-result
 sub-result c = search needs
 
--- src/lib.rt:54:9
 returns-2 : tie.Need-returns-2
 returns-2 c =
     let a = c .before .before .before .args in
     (cr-ends (a .line .now) _ (omega arith) (c .if2 .taken), omega arith)
 
--- src/lib.rt:45:1
 returns-3 : tie.Need-returns-3
 returns-3 c =
     let a = c .before .before .before .args in

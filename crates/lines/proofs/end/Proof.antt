@@ -4,24 +4,17 @@ use Rattle.lines.specs.Lines.{endOf}
 use borrow.Author.Needs.{needs}
 use Rattle.lines.proofs.end.Statement.{statement}
 use Rattle.lines.proofs.end.Tie as tie
-use Rattle.lines.proofs.end.Reads as reads
-use Rattle.lines.proofs.end.Lts as lts
-use Rattle.lines.proofs.judge.Reads as judge-reads
 
--- src/lib.rt:105:9
 judge-requires : tie.Need-judge-requires
 judge-requires c κs = search needs
 
--- src/lib.rt:109:16
 add-next : tie.Need-add-next
 add-next c = search needs
 
--- src/lib.rt:102:1
 returns : tie.Need-returns
 unfolding endOf
 returns c = rw (c .before .judge .ensures, lt-ltb _ _ (c .if1 .taken))
 
--- src/lib.rt:102:1
 returns-2 : tie.Need-returns-2
 unfolding endOf
 returns-2 c = rw (c .before .judge .ensures, le-ltb _ _ (c .if1 .left))

@@ -7,8 +7,6 @@ use Rattle.lines.specs.Words.{member}
 use Rattle.lines.specs.LinesLaws.{member-here, member-on, member-none}
 use Rattle.lines.proofs.has.Statement.{statement}
 use Rattle.lines.proofs.has.Tie as tie
-use Rattle.lines.proofs.has.Reads as reads
-use Rattle.lines.proofs.has.Lts as lts
 
 abbrev Inv-loop : tie.InvT-loop
 Inv-loop word letter i₀ i = (i ≤ length word) × (member letter word ≡ member letter (drop i word))
@@ -16,37 +14,30 @@ Inv-loop word letter i₀ i = (i ≤ length word) × (member letter word ≡ mem
 abbrev μ-loop : tie.MeasureT-loop
 μ-loop word letter i₀ i = length word - i
 
--- src/lib.rt:219:5
 loop-holds : tie.Need-loop-holds Inv-loop μ-loop
 loop-holds c = (omega arith, refl)
 
--- src/lib.rt:220:12
 shared-slice-read-if1 : tie.Need-shared-slice-read-if1 Inv-loop μ-loop
 shared-slice-read-if1 c = omega arith
 
--- src/lib.rt:221:13
 returns : tie.Need-returns Inv-loop μ-loop
 returns c =
     let l = c .before .before .before in
     let a = l .before .args in
     sym (l .loop .inv .1 ∙ member-here (a .letter) (l .loop .i) (a .word .now) (omega arith) (c .if1 .taken))
 
--- src/lib.rt:223:9
 add-i : tie.Need-add-i Inv-loop μ-loop
 add-i c = omega arith
 
--- src/lib.rt:219:5
 loop-less : tie.Need-loop-less Inv-loop μ-loop
 loop-less c = omega arith
 
--- src/lib.rt:219:5
 loop-again : tie.Need-loop-again Inv-loop μ-loop
 loop-again c =
     let l = c .before .before .before in
     let a = l .before .args in
     (omega arith, l .loop .inv .1 ∙ member-on (a .letter) (l .loop .i) (a .word .now) (omega arith) (c .if1 .left))
 
--- src/lib.rt:215:1
 returns-2 : tie.Need-returns-2 Inv-loop μ-loop
 returns-2 c =
     let l = c .before in

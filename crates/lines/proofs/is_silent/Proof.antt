@@ -8,8 +8,6 @@ use Rattle.lines.specs.Lines.{silent}
 use Rattle.lines.specs.LinesLaws.{blank-space, blank-tab, no-blank, silent-blank, silent-first, silent-none}
 use Rattle.lines.proofs.is_silent.Statement.{statement}
 use Rattle.lines.proofs.is_silent.Tie as tie
-use Rattle.lines.proofs.is_silent.Reads as reads
-use Rattle.lines.proofs.is_silent.Lts as lts
 
 abbrev Inv-loop : tie.InvT-loop
 Inv-loop line i₀ i = (i ≤ length line) × (silent line ≡ silent (drop i line))
@@ -17,30 +15,24 @@ Inv-loop line i₀ i = (i ≤ length line) × (silent line ≡ silent (drop i li
 abbrev μ-loop : tie.MeasureT-loop
 μ-loop line i₀ i = length line - i
 
--- src/lib.rt:64:5
 loop-holds : tie.Need-loop-holds Inv-loop μ-loop
 loop-holds c = (omega arith, refl)
 
--- src/lib.rt:65:17
 shared-slice-read-c : tie.Need-shared-slice-read-c Inv-loop μ-loop
 shared-slice-read-c c = omega arith
 
--- src/lib.rt:68:17
 returns : tie.Need-returns Inv-loop μ-loop
 returns c =
     let l = c .before .before .before .before in
     let a = l .before .args in
     sym (l .loop .inv .1 ∙ silent-first (a .line .now) (l .loop .i) (omega arith) (no-blank _ (c .before .if1 .taken) (c .if2 .taken)))
 
--- src/lib.rt:71:9
 add-i : tie.Need-add-i Inv-loop μ-loop
 add-i c = omega arith
 
--- src/lib.rt:64:5
 loop-less : tie.Need-loop-less Inv-loop μ-loop
 loop-less c = omega arith
 
--- src/lib.rt:64:5
 loop-again : tie.Need-loop-again Inv-loop μ-loop
 loop-again c =
     let l = c .before .before .before in
@@ -52,7 +44,6 @@ loop-again c =
           (⊎-elim (λ w. blank-tab _ (w .0 .taken) (w .1 .left)) (λ w. blank-space _ (w .left)) (c .if1 .came)),
     )
 
--- src/lib.rt:60:1
 returns-2 : tie.Need-returns-2 Inv-loop μ-loop
 returns-2 c =
     let l = c .before in

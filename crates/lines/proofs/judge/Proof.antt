@@ -8,11 +8,6 @@ use Rattle.lines.specs.LinesLaws.{Whole, whole-line, whole-long, whole-p
 use borrow.Author.Needs.{needs}
 use Rattle.lines.proofs.judge.Statement.{statement}
 use Rattle.lines.proofs.judge.Tie as tie
-use Rattle.lines.proofs.judge.Reads as reads
-use Rattle.lines.proofs.judge.Lts as lts
-use Rattle.lines.proofs.chomp.Reads as chomp-reads
-use Rattle.lines.proofs.is_silent.Reads as is-silent-reads
-use Rattle.lines.proofs.least.Reads as least-reads
 
 -- what `chomp` left, as the definition has it
 whole : (c : tie.After-chomp) → let a = c .before .before .before .before .before .args in Whole (a .lines) (a .buf .now) (c .chomp .result)
@@ -25,54 +20,42 @@ whole c =
 short : (c : tie.Joined2) → c .before .chomp .result ≤ length (c .before .before .before .before .before .before .args .buf .now) - 1
 short c = ⊎-elim (λ w. omega arith) (λ w. omega arith) (c .if2 .came)
 
--- src/lib.rt:87:9
 returns : tie.Need-returns
 returns c = let a = c .before .before .args in long-line (a .lines) (a .buf .now) (c .if1 .taken)
 
--- src/lib.rt:89:9
 least-requires : tie.Need-least-requires
 least-requires c κs = search needs
 
--- src/lib.rt:90:19
 sub-chomp : tie.Need-sub-chomp
 sub-chomp c = search needs
 
--- src/lib.rt:90:19
 part-chomp-start : tie.Need-part-chomp-start
 part-chomp-start c = search needs
 
--- src/lib.rt:90:19
 part-chomp-end : tie.Need-part-chomp-end
 part-chomp-end c = search needs
 
--- src/lib.rt:90:9
 chomp-requires : tie.Need-chomp-requires
 chomp-requires c κs = search needs
 
--- src/lib.rt:93:13
 returns-2 : tie.Need-returns-2
 returns-2 c =
     let w = c .before .before in
     let a = w .before .before .before .before .before .args in
     whole-long (a .lines) (a .buf .now) _ (whole w) (c .before .if2 .taken) (c .if3 .taken)
 
--- src/lib.rt:96:18
 sub-is-silent : tie.Need-sub-is-silent
 sub-is-silent c = search needs
 
--- src/lib.rt:96:18
 part-is-silent-start : tie.Need-part-is-silent-start
 part-is-silent-start c = search needs
 
--- src/lib.rt:96:18
 part-is-silent-end : tie.Need-part-is-silent-end
 part-is-silent-end c = search needs
 
--- src/lib.rt:96:8
 is-silent-requires : tie.Need-is-silent-requires
 is-silent-requires c κs = search needs
 
--- src/lib.rt:97:9
 returns-3 : tie.Need-returns-3
 returns-3 c =
     let j = c .before .before .before in
@@ -80,7 +63,6 @@ returns-3 c =
     let a = w .before .before .before .before .before .args in
     whole-passed (a .lines) (a .buf .now) _ (whole w) (short j) (sym (c .before .is-silent .ensures) ∙ c .if4 .taken)
 
--- src/lib.rt:83:1
 returns-4 : tie.Need-returns-4
 returns-4 c =
     let j = c .before .before .before in

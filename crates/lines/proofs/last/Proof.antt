@@ -4,26 +4,18 @@ use Rattle.lines.specs.LinesLaws.{last-long, last-some, last-none}
 use borrow.Author.Needs.{needs}
 use Rattle.lines.proofs.last.Statement.{statement}
 use Rattle.lines.proofs.last.Tie as tie
-use Rattle.lines.proofs.last.Reads as reads
-use Rattle.lines.proofs.last.Lts as lts
-use Rattle.lines.proofs.end.Reads as end-reads
-use Rattle.lines.proofs.reading.Reads as reading-reads
 
--- src/lib.rt:154:9
 end-requires : tie.Need-end-requires
 end-requires c κs = search needs
 
--- src/lib.rt:154:9
 returns : tie.Need-returns
 returns c =
     let a = c .before .before .before .args in
     last-long (a .lines) (a .buf .now) _ (c .before .if1 .taken) (c .end .ensures)
 
--- src/lib.rt:157:9
 end-requires-2 : tie.Need-end-requires-2
 end-requires-2 c κs = search needs
 
--- src/lib.rt:157:9
 returns-2 : tie.Need-returns-2
 returns-2 c =
     let t = c .before in
@@ -31,11 +23,9 @@ returns-2 c =
     let a = e .before .before .args in
     last-some (a .lines) (a .buf .now) _ (e .if1 .left) (t .if2 .taken) (c .end2 .ensures)
 
--- src/lib.rt:159:5
 reading-requires : tie.Need-reading-requires
 reading-requires c κs = search needs
 
--- src/lib.rt:150:1
 returns-3 : tie.Need-returns-3
 returns-3 c =
     let t = c .before in

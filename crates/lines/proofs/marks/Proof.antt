@@ -4,37 +4,28 @@ use Rattle.lines.specs.LinesLaws.{marks-dash, marks-letters}
 use borrow.Author.Needs.{needs}
 use Rattle.lines.proofs.marks.Statement.{statement}
 use Rattle.lines.proofs.marks.Tie as tie
-use Rattle.lines.proofs.marks.Reads as reads
-use Rattle.lines.proofs.marks.Lts as lts
-use Rattle.lines.proofs.once.Reads as once-reads
 
--- src/lib.rt:250:9
 once-requires : tie.Need-once-requires
 once-requires c κs = search needs
 
--- src/lib.rt:250:9
 returns : tie.Need-returns
 returns c =
     let t = c .before in
     let a = t .before .before .before .args in
     c .once .ensures ∙ marks-letters (a .letters .now) (a .word .now) (λ h. absurd (t .if1 .taken h))
 
--- src/lib.rt:252:8
 shared-slice-read-if2 : tie.Need-shared-slice-read-if2
 shared-slice-read-if2 c = search needs
 
--- src/lib.rt:253:9
 returns-2 : tie.Need-returns-2
 returns-2 c =
     let e = c .before .before in
     let a = e .before .before .before .args in
     marks-dash (a .letters .now) (a .word .now) (e .if1 .left) (c .if2 .taken)
 
--- src/lib.rt:255:5
 once-requires-2 : tie.Need-once-requires-2
 once-requires-2 c κs = search needs
 
--- src/lib.rt:246:1
 returns-3 : tie.Need-returns-3
 returns-3 c =
     let t = c .before in

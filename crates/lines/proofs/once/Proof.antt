@@ -9,9 +9,6 @@ use Rattle.lines.specs.Words.{member, eachOnce}
 use Rattle.lines.specs.LinesLaws.{once-other, once-twice, once-on, once-none}
 use Rattle.lines.proofs.once.Statement.{statement}
 use Rattle.lines.proofs.once.Tie as tie
-use Rattle.lines.proofs.once.Reads as reads
-use Rattle.lines.proofs.once.Lts as lts
-use Rattle.lines.proofs.has.Reads as has-reads
 
 abbrev Inv-loop : tie.InvT-loop
 Inv-loop letters word i₀ i = (i ≤ length word) × (eachOnce letters word ≡ eachOnce letters (drop i word))
@@ -19,19 +16,15 @@ Inv-loop letters word i₀ i = (i ≤ length word) × (eachOnce letters word ≡
 abbrev μ-loop : tie.MeasureT-loop
 μ-loop letters word i₀ i = length word - i
 
--- src/lib.rt:232:5
 loop-holds : tie.Need-loop-holds Inv-loop μ-loop
 loop-holds c = (omega arith, refl)
 
--- src/lib.rt:233:17
 shared-slice-read-c : tie.Need-shared-slice-read-c Inv-loop μ-loop
 shared-slice-read-c c = omega arith
 
--- src/lib.rt:234:13
 has-requires : tie.Need-has-requires Inv-loop μ-loop
 has-requires c κs = tt
 
--- src/lib.rt:235:13
 returns : tie.Need-returns Inv-loop μ-loop
 returns c =
     let h = c .before in
@@ -39,27 +32,21 @@ returns c =
     let a = l .before .before .before .args in
     sym (l .loop .inv .1 ∙ once-other (a .letters .now) (a .word .now) (l .loop .i) (omega arith) (sym (h .has .ensures) ∙ not-true _ (c .if1 .taken)))
 
--- src/lib.rt:237:22
 add-has : tie.Need-add-has Inv-loop μ-loop
 add-has c = omega arith
 
--- src/lib.rt:237:16
 sub-has : tie.Need-sub-has Inv-loop μ-loop
 sub-has c = omega arith
 
--- src/lib.rt:237:16
 part-has-start : tie.Need-part-has-start Inv-loop μ-loop
 part-has-start c = omega arith
 
--- src/lib.rt:237:16
 part-has-end : tie.Need-part-has-end Inv-loop μ-loop
 part-has-end c = omega arith
 
--- src/lib.rt:237:12
 has-requires-2 : tie.Need-has-requires-2 Inv-loop μ-loop
 has-requires-2 c κs = tt
 
--- src/lib.rt:238:13
 returns-2 : tie.Need-returns-2 Inv-loop μ-loop
 returns-2 c =
     let k = c .before in
@@ -73,15 +60,12 @@ returns-2 c =
     ∙ once-twice (a .letters .now) (a .word .now) (l .loop .i) (omega arith) (sym (h .has .ensures) ∙ not-false _ (e .if1 .left))
     (sym (ap (member x) (to-the-end (l .loop .i + 1) (a .word .now))) ∙ sym (k .has2 .ensures) ∙ c .if2 .taken))
 
--- src/lib.rt:240:9
 add-i : tie.Need-add-i Inv-loop μ-loop
 add-i c = omega arith
 
--- src/lib.rt:232:5
 loop-less : tie.Need-loop-less Inv-loop μ-loop
 loop-less c = omega arith
 
--- src/lib.rt:232:5
 loop-again : tie.Need-loop-again Inv-loop μ-loop
 loop-again c =
     let k = c .before in
@@ -96,7 +80,6 @@ loop-again c =
           (sym (ap (member x) (to-the-end (l .loop .i + 1) (a .word .now))) ∙ sym (k .has2 .ensures) ∙ c .if2 .left),
     )
 
--- src/lib.rt:228:1
 returns-3 : tie.Need-returns-3 Inv-loop μ-loop
 returns-3 c =
     let l = c .before in

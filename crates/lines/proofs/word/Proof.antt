@@ -7,10 +7,6 @@ use Rattle.lines.specs.Words.{trimmed, wordOf}
 use Rattle.lines.specs.LinesLaws.{words-start, words-next, words-here}
 use Rattle.lines.proofs.word.Statement.{statement}
 use Rattle.lines.proofs.word.Tie as tie
-use Rattle.lines.proofs.word.Reads as reads
-use Rattle.lines.proofs.word.Lts as lts
-use Rattle.lines.proofs.word_end.Reads as word-end-reads
-use Rattle.lines.proofs.word_start.Reads as word-start-reads
 
 abbrev Inv-loop : tie.InvT-loop
 Inv-loop line k at₀ left₀ at left = (at ≤ length line) × ((trimmed (drop at line) ≡ drop at line) × (wordOf k line ≡ wordOf left (drop at line)))
@@ -18,34 +14,27 @@ Inv-loop line k at₀ left₀ at left = (at ≤ length line) × ((trimmed (drop 
 abbrev μ-loop : tie.MeasureT-loop
 μ-loop line k at₀ left₀ at left = left
 
--- src/lib.rt:203:9
 word-start-requires : tie.Need-word-start-requires Inv-loop μ-loop
 word-start-requires c κs = omega arith
 
--- src/lib.rt:205:5
 loop-holds : tie.Need-loop-holds Inv-loop μ-loop
 loop-holds c =
     let a = c .before .before .args in
     let s = c .word-start .ensures in
     (s .0, words-start (a .k) (c .word-start .result) (a .line .now) (a .line .now) (s .1))
 
--- src/lib.rt:206:13
 word-end-requires : tie.Need-word-end-requires Inv-loop μ-loop
 word-end-requires c κs = omega arith
 
--- src/lib.rt:207:9
 word-start-requires-2 : tie.Need-word-start-requires-2 Inv-loop μ-loop
 word-start-requires-2 c κs = c .word-end .ensures .inside
 
--- src/lib.rt:208:9
 sub-left : tie.Need-sub-left Inv-loop μ-loop
 sub-left c = omega arith
 
--- src/lib.rt:205:5
 loop-less : tie.Need-loop-less Inv-loop μ-loop
 loop-less c = omega arith
 
--- src/lib.rt:205:5
 loop-again : tie.Need-loop-again Inv-loop μ-loop
 loop-again c =
     let l = c .before .before .before in
@@ -63,23 +52,18 @@ loop-again c =
       ),
     )
 
--- src/lib.rt:210:9
 word-end-requires-2 : tie.Need-word-end-requires-2 Inv-loop μ-loop
 word-end-requires-2 c κs = omega arith
 
--- src/lib.rt:211:5
 sub-result : tie.Need-sub-result Inv-loop μ-loop
 sub-result c = omega arith
 
--- src/lib.rt:211:5
 part-result-start : tie.Need-part-result-start Inv-loop μ-loop
 part-result-start c = omega (arith, c .word-end2 .ensures .onward)
 
--- src/lib.rt:211:5
 part-result-end : tie.Need-part-result-end Inv-loop μ-loop
 part-result-end c = omega (arith, c .word-end2 .ensures .inside)
 
--- src/lib.rt:200:1
 returns : tie.Need-returns Inv-loop μ-loop
 returns c =
     let e = c .before in

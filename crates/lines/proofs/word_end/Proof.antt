@@ -8,8 +8,6 @@ use Rattle.lines.specs.Words.{front, behind}
 use Rattle.lines.specs.LinesLaws.{Ends, blank-space, blank-tab, no-blank, behind-blank, behind-more, behind-none, word-on, word-ends, word-none}
 use Rattle.lines.proofs.word_end.Statement.{statement}
 use Rattle.lines.proofs.word_end.Tie as tie
-use Rattle.lines.proofs.word_end.Reads as reads
-use Rattle.lines.proofs.word_end.Lts as lts
 
 abbrev Inv-loop : tie.InvT-loop
 Inv-loop line from i₀ i =
@@ -20,15 +18,12 @@ Inv-loop line from i₀ i =
 abbrev μ-loop : tie.MeasureT-loop
 μ-loop line from i₀ i = length line - i
 
--- src/lib.rt:186:5
 loop-holds : tie.Need-loop-holds Inv-loop μ-loop
 loop-holds c = (omega arith, (omega arith, (refl, word-none (c .args .line .now) (c .args .from))))
 
--- src/lib.rt:187:17
 shared-slice-read-c : tie.Need-shared-slice-read-c Inv-loop μ-loop
 shared-slice-read-c c = omega arith
 
--- src/lib.rt:189:13
 returns : tie.Need-returns Inv-loop μ-loop
 returns c =
     let l = c .before .before .before in
@@ -41,7 +36,6 @@ returns c =
       word = word-ends (a .line .now) (a .from) (l .loop .i) (b .1) (l .loop .inv .1 .1 .1);
     }
 
--- src/lib.rt:192:13
 returns-2 : tie.Need-returns-2 Inv-loop μ-loop
 returns-2 c =
     let l = c .before .before .before .before in
@@ -54,15 +48,12 @@ returns-2 c =
       word = word-ends (a .line .now) (a .from) (l .loop .i) (b .1) (l .loop .inv .1 .1 .1);
     }
 
--- src/lib.rt:194:9
 add-i : tie.Need-add-i Inv-loop μ-loop
 add-i c = omega arith
 
--- src/lib.rt:186:5
 loop-less : tie.Need-loop-less Inv-loop μ-loop
 loop-less c = omega arith
 
--- src/lib.rt:186:5
 loop-again : tie.Need-loop-again Inv-loop μ-loop
 loop-again c =
     let l = c .before .before .before .before in
@@ -78,7 +69,6 @@ loop-again c =
       ),
     )
 
--- src/lib.rt:181:1
 returns-3 : tie.Need-returns-3 Inv-loop μ-loop
 returns-3 c =
     let l = c .before in

@@ -8,8 +8,6 @@ use Rattle.lines.specs.Words.{trimmed}
 use Rattle.lines.specs.LinesLaws.{blank-space, blank-tab, no-blank, trimmed-blank, trimmed-first, trimmed-none}
 use Rattle.lines.proofs.word_start.Statement.{statement}
 use Rattle.lines.proofs.word_start.Tie as tie
-use Rattle.lines.proofs.word_start.Reads as reads
-use Rattle.lines.proofs.word_start.Lts as lts
 
 abbrev Inv-loop : tie.InvT-loop
 Inv-loop line from i₀ i = (i ≤ length line) × (trimmed (drop i line) ≡ trimmed (drop from line))
@@ -17,15 +15,12 @@ Inv-loop line from i₀ i = (i ≤ length line) × (trimmed (drop i line) ≡ tr
 abbrev μ-loop : tie.MeasureT-loop
 μ-loop line from i₀ i = length line - i
 
--- src/lib.rt:168:5
 loop-holds : tie.Need-loop-holds Inv-loop μ-loop
 loop-holds c = (omega arith, refl)
 
--- src/lib.rt:169:17
 shared-slice-read-c : tie.Need-shared-slice-read-c Inv-loop μ-loop
 shared-slice-read-c c = omega arith
 
--- src/lib.rt:172:17
 returns : tie.Need-returns Inv-loop μ-loop
 returns c =
     let l = c .before .before .before .before in
@@ -34,15 +29,12 @@ returns c =
       sym (trimmed-first (a .line .now) (l .loop .i) (omega arith) (no-blank _ (c .before .if1 .taken) (c .if2 .taken))) ∙ l .loop .inv .1,
     )
 
--- src/lib.rt:175:9
 add-i : tie.Need-add-i Inv-loop μ-loop
 add-i c = omega arith
 
--- src/lib.rt:168:5
 loop-less : tie.Need-loop-less Inv-loop μ-loop
 loop-less c = omega arith
 
--- src/lib.rt:168:5
 loop-again : tie.Need-loop-again Inv-loop μ-loop
 loop-again c =
     let l = c .before .before .before in
@@ -55,7 +47,6 @@ loop-again c =
           ∙ l .loop .inv .1,
     )
 
--- src/lib.rt:163:1
 returns-2 : tie.Need-returns-2 Inv-loop μ-loop
 returns-2 c =
     let l = c .before in

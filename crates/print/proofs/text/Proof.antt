@@ -6,43 +6,31 @@ use Rattle.print.specs.PrintLaws.{full, printed, copied-over}
 use borrow.Author.Needs.{needs}
 use Rattle.print.proofs.text.Statement.{statement}
 use Rattle.print.proofs.text.Tie as tie
-use Rattle.print.proofs.text.Reads as reads
-use Rattle.print.proofs.text.Lts as lts
-use Rattle.bytes.proofs.copy.Reads as copy-reads
 
--- src/lib.rt:19:9
 returns : tie.Need-returns
 returns c = let a = c .before .before .before .args in full (a .pos) (a .bytes .now) (a .out .now) (omega arith)
 
--- src/lib.rt:22:9
 returns-2 : tie.Need-returns-2
 returns-2 c = let a = c .before .before .before .before .args in full (a .pos) (a .bytes .now) (a .out .now) (omega arith)
 
--- src/lib.rt:24:24
 sub-copy : tie.Need-sub-copy
 sub-copy c = search needs
 
--- src/lib.rt:24:24
 part-copy-start : tie.Need-part-copy-start
 part-copy-start c = search needs
 
--- src/lib.rt:24:24
 part-copy-end : tie.Need-part-copy-end
 part-copy-end c = search needs
 
--- src/lib.rt:24:5
 copy-requires : tie.Need-copy-requires
 copy-requires c κs = search needs
 
--- src/lib.rt:25:5
 add-result : tie.Need-add-result
 add-result c = search needs
 
--- src/lib.rt:13:1
 same-length : tie.Need-same-length
 same-length c = search needs
 
--- src/lib.rt:13:1
 returns-3 : tie.Need-returns-3
 returns-3 c =
     let f = c .before .before in

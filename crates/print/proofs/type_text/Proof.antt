@@ -7,38 +7,27 @@ use Rattle.print.specs.PrintLaws.{own-inside, turned-inside, turned-own,
 use borrow.Author.Needs.{needs}
 use Rattle.print.proofs.type_text.Statement.{statement}
 use Rattle.print.proofs.type_text.Tie as tie
-use Rattle.print.proofs.type_text.Reads as reads
-use Rattle.print.proofs.type_text.Lts as lts
-use Rattle.bytes.proofs.reverse.Reads as reverse-reads
-use Rattle.print.proofs.spell.Reads as spell-reads
-use Rattle.uuid.proofs.width.Reads as width-reads
 
 full : (c : tie.Start) → length (c .args .u .bytes) ≡ 16
 full c = search needs
 
--- src/lib.rt:145:9
 width-requires : tie.Need-width-requires
 width-requires c κs = search needs
 
--- src/lib.rt:146:20
 slice-aggregate-reverse : tie.Need-slice-aggregate-reverse
 slice-aggregate-reverse c = search needs
 
--- src/lib.rt:146:5
 reverse-requires : tie.Need-reverse-requires
 reverse-requires c κs =
     let s = c .before .before .before .before in
     (omega arith, own-inside (s .args .u) _ (c .before .width .ensures) (full s))
 
--- src/lib.rt:147:27
 sub-spell : tie.Need-sub-spell
 sub-spell c = search needs
 
--- src/lib.rt:147:27
 part-spell-start : tie.Need-part-spell-start
 part-spell-start c = search needs
 
--- src/lib.rt:147:27
 part-spell-end : tie.Need-part-spell-end
 part-spell-end c =
     let r = c .before .before .before in
@@ -46,7 +35,6 @@ part-spell-end c =
     let s = w .before .before .before in
     turned-inside (s .args .u) _ (w .width .ensures) (full s) _ (r .reverse .ensures)
 
--- src/lib.rt:147:5
 spell-requires : tie.Need-spell-requires
 spell-requires c κs =
     let r = c .before .before .before .before in
@@ -54,11 +42,9 @@ spell-requires c κs =
     let s = w .before .before .before in
     turned-wide (s .args .u) _ (w .width .ensures) (full s) _ (r .reverse .ensures)
 
--- src/lib.rt:139:1
 same-length : tie.Need-same-length
 same-length c = search needs
 
--- src/lib.rt:139:1
 returns : tie.Need-returns
 returns c =
     let t = c .before .before in

@@ -3,111 +3,82 @@ use Rattle.print.specs.PrintLaws.{usual-stores}
 use borrow.Author.Needs.{needs}
 use Rattle.print.proofs.usual.Statement.{statement}
 use Rattle.print.proofs.usual.Tie as tie
-use Rattle.print.proofs.usual.Reads as reads
-use Rattle.print.proofs.usual.Lts as lts
-use Rattle.print.proofs.digits.Reads as digits-reads
 
--- src/lib.rt:114:12
 slice-aggregate-digits : tie.Need-slice-aggregate-digits
 slice-aggregate-digits c = search needs
 
--- src/lib.rt:114:26
 sub-digits : tie.Need-sub-digits
 sub-digits c = search needs
 
--- src/lib.rt:114:26
 part-digits-start : tie.Need-part-digits-start
 part-digits-start c = search needs
 
--- src/lib.rt:114:26
 part-digits-end : tie.Need-part-digits-end
 part-digits-end c = search needs
 
--- src/lib.rt:114:5
 digits-requires : tie.Need-digits-requires
 digits-requires c κs = search needs
 
--- src/lib.rt:115:12
 slice-aggregate-digits-2 : tie.Need-slice-aggregate-digits-2
 slice-aggregate-digits-2 c = search needs
 
--- src/lib.rt:115:26
 sub-digits-2 : tie.Need-sub-digits-2
 sub-digits-2 c = search needs
 
--- src/lib.rt:115:26
 part-digits-start-2 : tie.Need-part-digits-start-2
 part-digits-start-2 c = search needs
 
--- src/lib.rt:115:26
 part-digits-end-2 : tie.Need-part-digits-end-2
 part-digits-end-2 c = search needs
 
--- src/lib.rt:115:5
 digits-requires-2 : tie.Need-digits-requires-2
 digits-requires-2 c κs = search needs
 
--- src/lib.rt:116:12
 slice-aggregate-digits-3 : tie.Need-slice-aggregate-digits-3
 slice-aggregate-digits-3 c = search needs
 
--- src/lib.rt:116:27
 sub-digits-3 : tie.Need-sub-digits-3
 sub-digits-3 c = search needs
 
--- src/lib.rt:116:27
 part-digits-start-3 : tie.Need-part-digits-start-3
 part-digits-start-3 c = search needs
 
--- src/lib.rt:116:27
 part-digits-end-3 : tie.Need-part-digits-end-3
 part-digits-end-3 c = search needs
 
--- src/lib.rt:116:5
 digits-requires-3 : tie.Need-digits-requires-3
 digits-requires-3 c κs = search needs
 
--- src/lib.rt:117:12
 slice-aggregate-digits-4 : tie.Need-slice-aggregate-digits-4
 slice-aggregate-digits-4 c = search needs
 
--- src/lib.rt:117:27
 sub-digits-4 : tie.Need-sub-digits-4
 sub-digits-4 c = search needs
 
--- src/lib.rt:117:27
 part-digits-start-4 : tie.Need-part-digits-start-4
 part-digits-start-4 c = search needs
 
--- src/lib.rt:117:27
 part-digits-end-4 : tie.Need-part-digits-end-4
 part-digits-end-4 c = search needs
 
--- src/lib.rt:117:5
 digits-requires-4 : tie.Need-digits-requires-4
 digits-requires-4 c κs = search needs
 
--- src/lib.rt:118:12
 slice-aggregate-digits-5 : tie.Need-slice-aggregate-digits-5
 slice-aggregate-digits-5 c = search needs
 
--- src/lib.rt:118:27
 sub-digits-5 : tie.Need-sub-digits-5
 sub-digits-5 c = search needs
 
--- src/lib.rt:118:27
 part-digits-start-5 : tie.Need-part-digits-start-5
 part-digits-start-5 c = search needs
 
--- src/lib.rt:118:27
 part-digits-end-5 : tie.Need-part-digits-end-5
 part-digits-end-5 c = search needs
 
--- src/lib.rt:118:5
 digits-requires-5 : tie.Need-digits-requires-5
 digits-requires-5 c κs = search needs
 
--- src/lib.rt:109:1
 returns : tie.Need-returns
 returns c =
     let d5 = c .before in
