@@ -1,8 +1,10 @@
 // The text of an error code: att.rs's `Display`, written to a lent buffer.
 use codec::Written;
 ghost use mathlib.Core.Path.{_≡_};
+ghost use lib.ListN.{take};
 ghost use Rattle.codec.specs.Buffer.{laid, written};
-ghost use Rattle.att_error.specs.Texts.{textOf};
+ghost use Rattle.codec.specs.CasesLaws.{None};
+ghost use Rattle.att_error.specs.Texts.{texts, textOf};
 
 pub fn write_text(code: u8, out: &mut [u8]) -> Written
     ensures { λ r. ⌜ r ≡ written (textOf code) (now (out .entry)) ⌝ }
@@ -60,6 +62,17 @@ pub fn write_text(code: u8, out: &mut [u8]) -> Written
             b"insufficient encryption: the attribute requires encryption before it can be read or written",
             out,
         ),
+        _ => write_other(code, out),
+    }
+}
+
+// The codes outside 01 to 0F, the first fifteen rows of the table.
+fn write_other(code: u8, out: &mut [u8]) -> Written
+    requires { ⌜ None code Unit (take 15 texts) ⌝ }
+    ensures { λ r. ⌜ r ≡ written (textOf code) (now (out .entry)) ⌝ }
+    ensures { λ _. ⌜ now (out .exit) ≡ laid (textOf code) (now (out .entry)) ⌝ }
+{
+    match code {
         0x10 => codec::write_bytes(
             b"unsupported group type: the attribute type is not a supported grouping attribute as defined by a higher layer specification",
             out,

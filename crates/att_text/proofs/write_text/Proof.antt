@@ -1,16 +1,9 @@
--- Each single code is a row of the table, whose text `write_bytes` writes; a code of no row is of the application or unknown, by the range.
-use mathlib.Core.Logic.{⊎-elim, inl, inr}
-use native.Mathlib.Omega.{arith}
+-- Each of the first codes is a row of the table, whose text `write_bytes` writes; a code of none of them is left to `write_other`.
 use borrow.Author.Needs.{needs}
-use Rattle.codec.specs.CasesLaws.{None}
-use Rattle.att_error.specs.Texts.{textOf, texts, application, unknown}
-use Rattle.att_error.specs.TextsLaws.{text-application, text-unknown, told}
+use Rattle.att_error.specs.Texts.{textOf, texts}
+use Rattle.att_error.specs.TextsLaws.{told}
 use Rattle.att_text.proofs.write_text.Statement.{statement}
 use Rattle.att_text.proofs.write_text.Tie as tie
-
-none : (c : tie.At-match-rest) → None (c .before .before .args .code) Unit texts
-unfolding texts
-none c = c .match .rest
 
 slice-aggregate-write-bytes : tie.Need-slice-aggregate-write-bytes
 slice-aggregate-write-bytes c = search needs
@@ -102,71 +95,9 @@ slice-aggregate-write-bytes-15 c = search needs
 write-bytes-requires-15 : tie.Need-write-bytes-requires-15
 write-bytes-requires-15 c κs = search needs
 
-slice-aggregate-write-bytes-16 : tie.Need-slice-aggregate-write-bytes-16
-slice-aggregate-write-bytes-16 c = search needs
-
-write-bytes-requires-16 : tie.Need-write-bytes-requires-16
-write-bytes-requires-16 c κs = search needs
-
-slice-aggregate-write-bytes-17 : tie.Need-slice-aggregate-write-bytes-17
-slice-aggregate-write-bytes-17 c = search needs
-
-write-bytes-requires-17 : tie.Need-write-bytes-requires-17
-write-bytes-requires-17 c κs = search needs
-
-slice-aggregate-write-bytes-18 : tie.Need-slice-aggregate-write-bytes-18
-slice-aggregate-write-bytes-18 c = search needs
-
-write-bytes-requires-18 : tie.Need-write-bytes-requires-18
-write-bytes-requires-18 c κs = search needs
-
-slice-aggregate-write-bytes-19 : tie.Need-slice-aggregate-write-bytes-19
-slice-aggregate-write-bytes-19 c = search needs
-
-write-bytes-requires-19 : tie.Need-write-bytes-requires-19
-write-bytes-requires-19 c κs = search needs
-
-slice-aggregate-write-bytes-20 : tie.Need-slice-aggregate-write-bytes-20
-slice-aggregate-write-bytes-20 c = search needs
-
-write-bytes-requires-20 : tie.Need-write-bytes-requires-20
-write-bytes-requires-20 c κs = search needs
-
-slice-aggregate-write-bytes-21 : tie.Need-slice-aggregate-write-bytes-21
-slice-aggregate-write-bytes-21 c = search needs
-
-write-bytes-requires-21 : tie.Need-write-bytes-requires-21
-write-bytes-requires-21 c κs = search needs
-
-slice-aggregate-write-bytes-22 : tie.Need-slice-aggregate-write-bytes-22
-slice-aggregate-write-bytes-22 c = search needs
-
-write-bytes-requires-22 : tie.Need-write-bytes-requires-22
-write-bytes-requires-22 c κs = search needs
-
-slice-aggregate-write-bytes-23 : tie.Need-slice-aggregate-write-bytes-23
-slice-aggregate-write-bytes-23 c = search needs
-
-write-bytes-requires-23 : tie.Need-write-bytes-requires-23
-write-bytes-requires-23 c κs = search needs
-
-slice-aggregate-write-between : tie.Need-slice-aggregate-write-between
-slice-aggregate-write-between c = search needs
-
-slice-aggregate-write-between-2 : tie.Need-slice-aggregate-write-between-2
-slice-aggregate-write-between-2 c = search needs
-
-write-between-requires : tie.Need-write-between-requires
-write-between-requires c κs = search needs
-
-slice-aggregate-write-between-3 : tie.Need-slice-aggregate-write-between-3
-slice-aggregate-write-between-3 c = search needs
-
-slice-aggregate-write-between-4 : tie.Need-slice-aggregate-write-between-4
-slice-aggregate-write-between-4 c = search needs
-
-write-between-requires-2 : tie.Need-write-between-requires-2
-write-between-requires-2 c κs = search needs
+write-other-requires : tie.Need-write-other-requires
+unfolding texts
+write-other-requires c κs = c .before .match .rest
 
 same-length : tie.Need-same-length
 same-length c = search needs
@@ -277,74 +208,7 @@ same-length-16 : tie.Need-same-length-16
 same-length-16 c = search needs
 
 returns-16 : tie.Need-returns-16
-unfolding textOf texts
-returns-16 c = let f = c .before .before in let m = f .before .before .before in let a = m .before .before .args in told (a .code) 0x10 (a .out .now) _ _ (m .match .keys16) (f .write-bytes16 .ensures)
-
-same-length-17 : tie.Need-same-length-17
-same-length-17 c = search needs
-
-returns-17 : tie.Need-returns-17
-unfolding textOf texts
-returns-17 c = let f = c .before .before in let m = f .before .before .before in let a = m .before .before .args in told (a .code) 0x11 (a .out .now) _ _ (m .match .keys17) (f .write-bytes17 .ensures)
-
-same-length-18 : tie.Need-same-length-18
-same-length-18 c = search needs
-
-returns-18 : tie.Need-returns-18
-unfolding textOf texts
-returns-18 c = let f = c .before .before in let m = f .before .before .before in let a = m .before .before .args in told (a .code) 0x12 (a .out .now) _ _ (m .match .keys18) (f .write-bytes18 .ensures)
-
-same-length-19 : tie.Need-same-length-19
-same-length-19 c = search needs
-
-returns-19 : tie.Need-returns-19
-unfolding textOf texts
-returns-19 c = let f = c .before .before in let m = f .before .before .before in let a = m .before .before .args in told (a .code) 0x13 (a .out .now) _ _ (m .match .keys19) (f .write-bytes19 .ensures)
-
-same-length-20 : tie.Need-same-length-20
-same-length-20 c = search needs
-
-returns-20 : tie.Need-returns-20
-unfolding textOf texts
-returns-20 c = let f = c .before .before in let m = f .before .before .before in let a = m .before .before .args in told (a .code) 0xFC (a .out .now) _ _ (m .match .keys20) (f .write-bytes20 .ensures)
-
-same-length-21 : tie.Need-same-length-21
-same-length-21 c = search needs
-
-returns-21 : tie.Need-returns-21
-unfolding textOf texts
-returns-21 c = let f = c .before .before in let m = f .before .before .before in let a = m .before .before .args in told (a .code) 0xFD (a .out .now) _ _ (m .match .keys21) (f .write-bytes21 .ensures)
-
-same-length-22 : tie.Need-same-length-22
-same-length-22 c = search needs
-
-returns-22 : tie.Need-returns-22
-unfolding textOf texts
-returns-22 c = let f = c .before .before in let m = f .before .before .before in let a = m .before .before .args in told (a .code) 0xFE (a .out .now) _ _ (m .match .keys22) (f .write-bytes22 .ensures)
-
-same-length-23 : tie.Need-same-length-23
-same-length-23 c = search needs
-
-returns-23 : tie.Need-returns-23
-unfolding textOf texts
-returns-23 c = let f = c .before .before in let m = f .before .before .before in let a = m .before .before .args in told (a .code) 0xFF (a .out .now) _ _ (m .match .keys23) (f .write-bytes23 .ensures)
-
-same-length-24 : tie.Need-same-length-24
-same-length-24 c = search needs
-
-returns-24 : tie.Need-returns-24
-unfolding application
-returns-24 c =
-    rw (text-application (c .before .before .before .before .before .before .before .before .before .before .args .code) (none (c .before .before .before .before .before .before .before .before)) (omega arith) (omega arith)) (c .before .before .write-between .ensures)
-
-same-length-25 : tie.Need-same-length-25
-same-length-25 c = search needs
-
-returns-25 : tie.Need-returns-25
-unfolding unknown
-returns-25 c =
-    rw (text-unknown (c .before .before .before .before .before .before .before .before .before .args .code) (none (c .before .before .before .before .before .before .before)) (⊎-elim (λ w. inl (w .taken)) (λ w. inr (omega arith)) (c .before .before .before .before .before .before .if1 .came)))
-    (c .before .before .write-between2 .ensures)
+returns-16 c = c .before .before .write-other .ensures
 
 pub write-text-spec : {M : Type 1} → statement M
 write-text-spec =
@@ -380,28 +244,7 @@ write-text-spec =
     write-bytes-requires-14
     slice-aggregate-write-bytes-15
     write-bytes-requires-15
-    slice-aggregate-write-bytes-16
-    write-bytes-requires-16
-    slice-aggregate-write-bytes-17
-    write-bytes-requires-17
-    slice-aggregate-write-bytes-18
-    write-bytes-requires-18
-    slice-aggregate-write-bytes-19
-    write-bytes-requires-19
-    slice-aggregate-write-bytes-20
-    write-bytes-requires-20
-    slice-aggregate-write-bytes-21
-    write-bytes-requires-21
-    slice-aggregate-write-bytes-22
-    write-bytes-requires-22
-    slice-aggregate-write-bytes-23
-    write-bytes-requires-23
-    slice-aggregate-write-between
-    slice-aggregate-write-between-2
-    write-between-requires
-    slice-aggregate-write-between-3
-    slice-aggregate-write-between-4
-    write-between-requires-2
+    write-other-requires
     same-length
     returns
     same-length-2
@@ -433,22 +276,4 @@ write-text-spec =
     same-length-15
     returns-15
     same-length-16
-    returns-16
-    same-length-17
-    returns-17
-    same-length-18
-    returns-18
-    same-length-19
-    returns-19
-    same-length-20
-    returns-20
-    same-length-21
-    returns-21
-    same-length-22
-    returns-22
-    same-length-23
-    returns-23
-    same-length-24
-    returns-24
-    same-length-25
-    returns-25)
+    returns-16)
