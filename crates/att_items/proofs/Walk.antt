@@ -13,9 +13,12 @@ use borrow.Author.Tests.{leb-true, leb-false, le-leb}
 use Rattle.codec.specs.Cases.{pick}
 use Rattle.uuid.specs.Uuids.{noUuid}
 use Rattle.att.specs.Wire as wire
-use Rattle.att.specs.Wire.{Tail, shapeOf, send, tailDecodes, Sent, NotSent}
+use Rattle.att.specs.Wire.{Tail, first, byFormat, rows, shapeOf, send, tailDecodes, Sent, NotSent}
 use Rattle.att.specs.Items.{stretches, items, eachOf, itemsOf}
-use Rattle.att.specs.Typed.{Shown, partOf, partOk, tailOf, meansShown, countable, encodedShown}
+use Rattle.att.specs.Typed.{Shown, partOf, partOk, tailOf, meansShown, countable, encodedShown, showRsp}
+use Rattle.att.specs.declared.Span.{Span}
+use Rattle.att.specs.declared.AttRsp.{AttRsp}
+use Rattle.att.specs.declared.AttRsp.the-variants as rsp
 use Rattle.att_items.specs.Iterators.{sent, fitted, itemShown, onward, walk}
 use Rattle.att_items.specs.declared.Step.{Step}
 use Rattle.att_items.specs.declared.Step.the-variants.{Item, End}
@@ -99,3 +102,25 @@ other-packet-ends a b s src pos g = rw g (by (sent (encodedShown s noUuid src)))
 pub not-sent-ends : (a b : ℕ) (s : Shown) (src : List ℕ) (pos : ℕ) → encodedShown s noUuid src ≡ NotSent → itemShown a b s src pos ≡ End
 unfolding itemShown
 not-sent-ends a b s src pos e = rw e
+
+-- so it is for the four packets that have items, each with its own iterator
+abbrev Walked : ℕ → ℕ → AttRsp → Type 0
+Walked a b r =
+    (src : List ℕ) (n : ℕ) → sent (encodedShown (showRsp r) noUuid src) ≡ true → length src < n
+    → walk n (itemShown a b (showRsp r) src) src 0 ≡ itemsOf (meansShown (showRsp r) noUuid src)
+
+pub information-walked : (f : ℕ) (d : Span) → Walked 0x05 0x05 (rsp.FindInformation f d)
+unfolding shapeOf rows
+information-walked f d src n h k = walk-gives-the-items 0x05 0x05 (showRsp (rsp.FindInformation f d)) src n byFormat 2 refl h refl k
+
+pub pairs-walked : (d : Span) → Walked 0x07 0x07 (rsp.FindByTypeValue d)
+unfolding shapeOf rows
+pairs-walked d src n h k = walk-gives-the-items 0x07 0x07 (showRsp (rsp.FindByTypeValue d)) src n (λ ns. 4) 2 refl h refl k
+
+pub values-walked : (c : ℕ) (d : Span) → Walked 0x09 0x11 (rsp.ReadByType c d)
+unfolding shapeOf rows
+values-walked c d src n h k = walk-gives-the-items 0x09 0x11 (showRsp (rsp.ReadByType c d)) src n first 2 refl h refl k
+
+pub groups-walked : (c : ℕ) (d : Span) → Walked 0x09 0x11 (rsp.ReadByGroupType c d)
+unfolding shapeOf rows
+groups-walked c d src n h k = walk-gives-the-items 0x09 0x11 (showRsp (rsp.ReadByGroupType c d)) src n first 4 refl h refl k
