@@ -1,11 +1,11 @@
 -- Laws of a position: the two answers of a call, for the one who gives them and for the one who got them.
 use Prim.Native.Nat.{ℕ, _+_, _≤_, _<_}
-use mathlib.Core.Path.{_≡_, refl, sym, ap, _∙_}
+use mathlib.Core.Path.{_≡_, refl, sym, _∙_}
 use mathlib.Core.Bool.{Bool, true, false}
 use mathlib.Core.List.{List, []}
 use native.Mathlib.Omega.{arith}
 use lib.Dec.{leb}
-use borrow.Author.Tests.{le-leb, lt-leb, leb-true, leb-false}
+use borrow.Author.Tests.{leb-true, leb-false}
 use Rattle.codec.specs.Cases.{pick}
 use Rattle.codec.specs.declared.Error.{Error}
 use Rattle.codec.specs.declared.Error.the-variants.{InsufficientSpace}
@@ -15,21 +15,34 @@ use Rattle.cursor.specs.declared.Moved.the-variants as moved
 use Rattle.cursor.specs.declared.Part.the-variants as part
 
 -- there is enough, or there is not
+pub is-enough : (pos len n : ℕ) → pos + n ≤ len → enough pos len n ≡ true
+is-enough pos len n h = by (enough pos len n) refl where
+  by : (t : Bool) → enough pos len n ≡ t → enough pos len n ≡ true
+  by true e = e
+  by false e = let z : _≡_ {A = ℕ} 0 1 = omega (arith, leb-false) in cc
+
+pub not-enough : (pos len n : ℕ) → len < pos + n → enough pos len n ≡ false
+not-enough pos len n h = by (enough pos len n) refl where
+  by : (t : Bool) → enough pos len n ≡ t → enough pos len n ≡ false
+  by true e = let z : _≡_ {A = ℕ} 0 1 = omega (arith, leb-true) in cc
+  by false e = e
+
+-- so the answers, and the part
 pub moves : (pos len n : ℕ) → pos + n ≤ len → moving pos len n ≡ moved.To (pos + n)
-moves pos len n h = rw (le-leb _ _ h)
+moves pos len n h = rw (is-enough pos len n h)
 
 pub stays : (pos len n : ℕ) → len < pos + n → moving pos len n ≡ moved.Refused InsufficientSpace
-stays pos len n h = rw (lt-leb _ _ h)
+stays pos len n h = rw (not-enough pos len n h)
 
 pub gives : (pos len n : ℕ) (bytes : List ℕ) → pos + n ≤ len → parted pos len n bytes ≡ bytes
-gives pos len n bytes h = rw (le-leb _ _ h)
+gives pos len n bytes h = rw (is-enough pos len n h)
 
 pub keeps : (pos len n : ℕ) (bytes : List ℕ) → len < pos + n → parted pos len n bytes ≡ []
-keeps pos len n bytes h = rw (lt-leb _ _ h)
+keeps pos len n bytes h = rw (not-enough pos len n h)
 
 -- "With a position past the end any n is short, and parts are empty."
 pub past-short : (pos len n : ℕ) → len < pos → (moving pos len n ≡ moved.Refused InsufficientSpace) × (parting pos len n ≡ part.Refused InsufficientSpace)
-past-short pos len n h = let k : len < pos + n = omega arith in rw (lt-leb _ _ k) (refl, refl)
+past-short pos len n h = rw (not-enough pos len n (omega arith)) (refl, refl)
 
 pub past-empty : (pos len n : ℕ) (bytes : List ℕ) → len < pos → parted pos len n bytes ≡ []
 past-empty pos len n bytes h = keeps pos len n bytes (omega arith)

@@ -1,6 +1,6 @@
 -- Laws of reading at a position: each answer where there are enough bytes and where there are not.
 use Prim.Native.Nat.{ℕ, _+_, _-_, _≤_, _<_}
-use mathlib.Core.Path.{_≡_, refl, sym, ap, _∙_}
+use mathlib.Core.Path.{_≡_, refl, sym}
 use mathlib.Core.Bool.{Bool, true, false}
 use mathlib.Core.List.{List, []}
 use native.Mathlib.Omega.{arith}
@@ -8,10 +8,9 @@ use lib.ListN.{length, take, drop, drop-of-length-le}
 use lib.Dec.{leb}
 use borrow.Author.Tests.{le-leb, lt-leb, leb-false}
 use Rattle.codec.specs.Cases.{pick}
-use Rattle.codec.specs.BufferLaws.{to-the-end, past-the-end, part-whole}
+use Rattle.codec.specs.BufferLaws.{part-whole}
 use Rattle.primitives.specs.Numbers.{numberAt}
-use Rattle.cursor.specs.PositionLaws.{gives, keeps}
-use Rattle.cursor.specs.Position.{parted}
+use Rattle.cursor.specs.PositionLaws.{gives}
 use Rattle.cursor.specs.Reading.{readAt, sliced, rest}
 
 pub read-whole : {A : Type 0} (width : ℕ) (value : ℕ → ℕ → A) (refused : A) (pos : ℕ) (src : List ℕ) (v next : ℕ)

@@ -1,6 +1,5 @@
 -- The answer is forward's, without the position.
 use mathlib.Core.Path.{ap}
-use native.Mathlib.Omega.{arith}
 use borrow.Author.Tests.{le-leb, lt-leb}
 use Rattle.cursor.specs.PositionLaws.{went, stayed}
 use Rattle.cursor.specs.declared.Part.the-variants.{Refused}

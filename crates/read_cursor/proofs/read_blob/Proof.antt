@@ -1,5 +1,4 @@
 -- Each read's answer tells whether its two bytes are there; the second stands behind the first.
-use mathlib.Core.Path.{_≡_}
 use native.Mathlib.Omega.{arith}
 use Rattle.read_cursor.proofs.Told.{got, refused, both, short}
 use borrow.Author.Needs.{needs}
