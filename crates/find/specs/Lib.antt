@@ -1,0 +1,4 @@
+pub mod Lists
+pub mod ListsLaws
+pub mod WalkLaws
+pub mod Walks

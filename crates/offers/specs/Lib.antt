@@ -1,0 +1,2 @@
+pub mod OfferLaws
+pub mod Offers

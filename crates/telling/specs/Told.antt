@@ -1,0 +1,34 @@
+-- Document 01, "How a packet is served": what goes out of an answer, and what the output then holds. "If the encoder refuses inside
+-- the responder, answer error 0E with handle 0."
+use Prim.Native.Nat.{ℕ}
+use mathlib.Core.Bool.{Bool, true, false}
+use mathlib.Core.List.{List}
+use lib.ListN.{length}
+use lib.Dec.{leb}
+use Rattle.codec.specs.Buffer.{over, laid}
+use Rattle.codec.specs.Cases.{pick}
+use Rattle.uuid.specs.Uuids.{noUuid}
+use Rattle.att.specs.Wire.{Coded, Sent, NotSent}
+use Rattle.att.specs.Typed.{encoded}
+use Rattle.att.specs.declared.Att.the-variants.{Server}
+use Rattle.att.specs.declared.AttRsp.{AttRsp}
+use Rattle.att.specs.declared.AttServer.the-variants.{Response}
+use Rattle.answers.specs.Serve.{unlikely}
+use Rattle.telling.specs.declared.Told.{Told}
+
+abbrev pub told : ℕ → Bool → Told
+told n meant = record { len = n; meant = meant }
+
+unfoldable pub packetOf : AttRsp → List ℕ → Coded
+packetOf rsp src = encoded (Server (Response rsp)) noUuid src
+
+abbrev pub unlikelyTold : ℕ → ℕ → Told
+unlikelyTold op room = pick (leb (length (unlikely op)) room) (told (length (unlikely op)) false) (told 0 false)
+
+abbrev pub toldBy : Coded → ℕ → ℕ → Told
+toldBy (Sent b) op room = pick (leb (length b) room) (told (length b) true) (unlikelyTold op room)
+toldBy NotSent op room = unlikelyTold op room
+
+abbrev pub outBy : Coded → ℕ → List ℕ → List ℕ
+outBy (Sent b) op out = pick (leb (length b) (length out)) (over b out) (laid (unlikely op) out)
+outBy NotSent op out = laid (unlikely op) out

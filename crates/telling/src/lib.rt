@@ -1,0 +1,72 @@
+// Document 01, "How a packet is served": an answer is a typed packet given to the encoder; where the
+// encoder refuses, error 0E with handle 0 goes out.
+use att::Att;
+use att::AttRsp;
+use att::AttServer;
+use codec::Written;
+use uuid::Form;
+use uuid::Uuid;
+ghost use mathlib.Core.Path.{_≡_};
+ghost use lib.ListN.{length};
+ghost use Rattle.codec.specs.Buffer.{laid};
+ghost use Rattle.uuid.specs.Uuids.{noUuid};
+ghost use Rattle.att.specs.Typed.{writtenOf, laidOf};
+ghost use Rattle.answers.specs.Serve.{unlikely};
+ghost use Rattle.telling.specs.Told.{packetOf, unlikelyTold, toldBy, outBy};
+
+// How many bytes went out, and whether they are the packet that was meant.
+pub struct Told {
+    pub len: usize,
+    pub meant: bool,
+}
+
+// The answer `rsp` to the opcode `op`, its data in `src`. An output too short for any answer gets none.
+pub fn tell(rsp: AttRsp, src: &[u8], op: u8, out: &mut [u8]) -> Told
+    ensures { λ r. ⌜ r ≡ toldBy (packetOf rsp (now (src .entry))) op (length (now (out .entry))) ⌝ }
+    ensures { λ _. ⌜ now (out .exit) ≡ outBy (packetOf rsp (now (src .entry))) op (now (out .entry)) ⌝ }
+{
+    match encode(rsp, src, out) {
+        Written::Done(n) => Told {
+            len: n,
+            meant: true,
+        },
+        Written::Refused(_) => tell_unlikely(op, out),
+    }
+}
+
+fn tell_unlikely(op: u8, out: &mut [u8]) -> Told
+    ensures { λ r. ⌜ r ≡ unlikelyTold op (length (now (out .entry))) ⌝ }
+    ensures { λ _. ⌜ now (out .exit) ≡ laid (unlikely op) (now (out .entry)) ⌝ }
+{
+    let error = AttRsp::Error {
+        request: op,
+        handle: 0,
+        code: 0x0E,
+    };
+    match encode(error, b"", out) {
+        Written::Done(n) => Told {
+            len: n,
+            meant: false,
+        },
+        Written::Refused(_) => Told {
+            len: 0,
+            meant: false,
+        },
+    }
+}
+
+fn encode(rsp: AttRsp, src: &[u8], out: &mut [u8]) -> Written
+    ensures { λ r. ⌜ r ≡ writtenOf (packetOf rsp (now (src .entry))) (now (out .entry)) ⌝ }
+    ensures { λ _. ⌜ now (out .exit) ≡ laidOf (packetOf rsp (now (src .entry))) (now (out .entry)) ⌝ }
+{
+    att_encode::encode(Att::Server(AttServer::Response(rsp)), no_uuid(), src, out)
+}
+
+fn no_uuid() -> Uuid
+    ensures { λ r. ⌜ r ≡ noUuid ⌝ }
+{
+    Uuid {
+        form: Form::Uuid16,
+        bytes: [0; 16],
+    }
+}
