@@ -10,13 +10,12 @@ use mir.Syntax.{Ty, Name, Fn, local, valueLocal, tyInt, named, erased, w64, plac
 use mir.Val.{Val, WT, hasTy, vint}
 use base.Logic.{SProp, ent, sep, emp, via, fst∗, snd∗, exE, id⊢}
 use base.Fml.{Lft, Share, ftrue, flft}
-use prog.Memory.{Memory}
 use prog.Model.{Model}
 use prog.Routine.{Routine, Env}
 use prog.Wp.{Heap, Calls, Loops, WpFn, Tables, Closed}
 use ghost.Atoms.{Atoms, sem}
 use contract.Lifetimes.{Lfts}
-use contract.Monad.{Fun, fact}
+use contract.Monad.{fact}
 use contract.Running.{GhostRules, Running, givenOf, tables, tablesOf}
 use types.Kit.{Given, ‵, raw, _⊛_, ⋆, some, later, _$_, _∵_, !, qed, by, move, drop, use1, use2, split, join, pick, fsplit, fjoin, suffices, frame, await, done}
 use types.Part.{whole, sub, look-in}
@@ -75,10 +74,6 @@ module _ {M : Type 1} (𝓤 : URA M) (s : Slot 1) (P : Says s) where
 
   abbrev pub of-called : Clauses 𝓤 (called s)
   of-called κs a = record { ghost = Unit {0}; requires = λ g. emp 𝓤; ensures = λ g r e. fact 𝓤 (P κs (a .0) (a .1 .0) (a .1 .1 .0) r) }
-
--- a method's own clauses are those: a proof says so first, so that a contract that says something else is refused there
-abbrev pub Agrees : (s : Slot 1) → Says s → ({M : Type 1} (𝓤 : URA M) (H : Heap 𝓤) → Atoms 𝓤 → (Memory → SProp 𝓤) → (Routine → Fun 𝓤) → Clauses 𝓤 (taken s)) → Type 2
-Agrees s P c = {M : Type 1} (𝓤 : URA M) (H : Heap 𝓤) (A : Atoms 𝓤) (mem : Memory → SProp 𝓤) (run : Routine → Fun 𝓤) → c 𝓤 H A mem run ≡ of-taken 𝓤 s P
 
 abbrev stayed : (s : Slot 1) → Stays (taken s .signature .params) (taken s .kept)
 stayed s = (stay-none B yes, (stay-none (λ _. usize) yes, tt))

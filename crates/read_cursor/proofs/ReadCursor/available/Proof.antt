@@ -1,5 +1,5 @@
 -- The walk of Thin: cursor's `available` is called, and the contract says of the result what that says.
-use mathlib.Core.Path.{_≡_, refl}
+use mathlib.Core.Path.{_≡_}
 use denote.Signature.{plain}
 use contract.Running.{givenOf}
 use mir.Syntax.{tyInt, w64}
@@ -11,16 +11,12 @@ use Rattle.cursor.specs.Position.{left}
 use Rattle.cursor.proofs.available.Symbol as callee
 use Rattle.cursor.proofs.available.Met as callee-thm
 use Rattle.read_cursor.proofs.Thin as thin
-use Rattle.read_cursor.proofs.ReadCursor.available as method
 use Rattle.read_cursor.proofs.ReadCursor.available.Key as key
 use Rattle.read_cursor.proofs.ReadCursor.available.Statement as stated
 use Rattle.read_cursor.proofs.ReadCursor.available.Code as code
 
 abbrev P : thin.Says (plain (λ _. usize))
 P κs pos src r = r ≡ left pos (length (now src))
-
-agrees : thin.Agrees (plain (λ _. usize)) P method.clauses
-agrees 𝓤 H A mem run = refl
 
 pub available-spec : {M : Type 1} → stated.statement M
 unfolding code.routine

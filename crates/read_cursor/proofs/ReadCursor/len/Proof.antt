@@ -1,5 +1,5 @@
 -- The walk of Thin: cursor's `len` is called, and the contract says of the result what that says.
-use mathlib.Core.Path.{_≡_, refl}
+use mathlib.Core.Path.{_≡_}
 use denote.Signature.{plain}
 use contract.Running.{givenOf}
 use mir.Syntax.{tyInt, w64}
@@ -8,16 +8,12 @@ use denote.Plain.{uint-lawful}
 use Rattle.cursor.proofs.len.Symbol as callee
 use Rattle.cursor.proofs.len.Met as callee-thm
 use Rattle.read_cursor.proofs.Thin as thin
-use Rattle.read_cursor.proofs.ReadCursor.len as method
 use Rattle.read_cursor.proofs.ReadCursor.len.Key as key
 use Rattle.read_cursor.proofs.ReadCursor.len.Statement as stated
 use Rattle.read_cursor.proofs.ReadCursor.len.Code as code
 
 abbrev P : thin.Says (plain (λ _. usize))
 P κs pos src r = r ≡ pos
-
-agrees : thin.Agrees (plain (λ _. usize)) P method.clauses
-agrees 𝓤 H A mem run = refl
 
 pub len-spec : {M : Type 1} → stated.statement M
 unfolding code.routine

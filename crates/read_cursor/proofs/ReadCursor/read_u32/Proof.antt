@@ -1,5 +1,5 @@
 -- The walk of Thin: cursor's `read_u32` is called, and the contract says of the result what that says.
-use mathlib.Core.Path.{_≡_, refl}
+use mathlib.Core.Path.{_≡_}
 use denote.Signature.{plain}
 use denote.Enum.Laws as EL
 use contract.Running.{givenOf}
@@ -12,16 +12,12 @@ use Rattle.cursor.specs.declared.ReadU32.the-variants.{Value, Refused}
 use Rattle.cursor.proofs.read_u32.Symbol as callee
 use Rattle.cursor.proofs.read_u32.Met as callee-thm
 use Rattle.read_cursor.proofs.Thin as thin
-use Rattle.read_cursor.proofs.ReadCursor.read_u32 as method
 use Rattle.read_cursor.proofs.ReadCursor.read_u32.Key as key
 use Rattle.read_cursor.proofs.ReadCursor.read_u32.Statement as stated
 use Rattle.read_cursor.proofs.ReadCursor.read_u32.Code as code
 
 abbrev P : thin.Says (plain (λ _. S.the-row))
 P κs pos src r = r ≡ readAt 4 Value (Refused InvalidValue) pos (now src)
-
-agrees : thin.Agrees (plain (λ _. S.the-row)) P method.clauses
-agrees 𝓤 H A mem run = refl
 
 pub read-u32-spec : {M : Type 1} → stated.statement M
 unfolding code.routine

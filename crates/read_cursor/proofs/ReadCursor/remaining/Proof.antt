@@ -1,5 +1,5 @@
 -- The walk of Thin: cursor's `remaining` is called, and the contract says of the result what that says.
-use mathlib.Core.Path.{_≡_, refl}
+use mathlib.Core.Path.{_≡_}
 use contract.Running.{givenOf}
 use mir.Syntax.{named}
 use denote.Builtin.{u8}
@@ -10,16 +10,12 @@ use Rattle.cursor.specs.Reading.{rest}
 use Rattle.cursor.proofs.remaining.Symbol as callee
 use Rattle.cursor.proofs.remaining.Met as callee-thm
 use Rattle.read_cursor.proofs.Thin as thin
-use Rattle.read_cursor.proofs.ReadCursor.remaining as method
 use Rattle.read_cursor.proofs.ReadCursor.remaining.Key as key
 use Rattle.read_cursor.proofs.ReadCursor.remaining.Statement as stated
 use Rattle.read_cursor.proofs.ReadCursor.remaining.Code as code
 
 abbrev P : thin.Says bytes
 P κs pos src r = now r ≡ rest pos (now src)
-
-agrees : thin.Agrees bytes P method.clauses
-agrees 𝓤 H A mem run = refl
 
 pub remaining-spec : {M : Type 1} → stated.statement M
 unfolding code.routine

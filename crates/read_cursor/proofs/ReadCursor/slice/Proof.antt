@@ -1,5 +1,5 @@
 -- The walk of ThinN: cursor's `slice` is called, and the contract says of the result what that says.
-use mathlib.Core.Path.{_≡_, refl}
+use mathlib.Core.Path.{_≡_}
 use contract.Running.{givenOf}
 use mir.Syntax.{named}
 use denote.Builtin.{u8}
@@ -10,16 +10,12 @@ use Rattle.cursor.specs.Reading.{sliced}
 use Rattle.cursor.proofs.slice.Symbol as callee
 use Rattle.cursor.proofs.slice.Met as callee-thm
 use Rattle.read_cursor.proofs.ThinN as thin
-use Rattle.read_cursor.proofs.ReadCursor.slice as method
 use Rattle.read_cursor.proofs.ReadCursor.slice.Key as key
 use Rattle.read_cursor.proofs.ReadCursor.slice.Statement as stated
 use Rattle.read_cursor.proofs.ReadCursor.slice.Code as code
 
 abbrev P : thin.Says bytes
 P κs pos src n r = now r ≡ sliced pos (now src) n
-
-agrees : thin.Agrees bytes P method.clauses
-agrees 𝓤 H A mem run = refl
 
 pub slice-spec : {M : Type 1} → stated.statement M
 unfolding code.routine

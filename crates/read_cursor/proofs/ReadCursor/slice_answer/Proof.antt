@@ -1,5 +1,5 @@
 -- The walk of ThinN: cursor's `slice_answer` is called, and the contract says of the result what that says.
-use mathlib.Core.Path.{_≡_, refl}
+use mathlib.Core.Path.{_≡_}
 use denote.Signature.{plain}
 use denote.Enum.Laws as EL
 use contract.Running.{givenOf}
@@ -11,16 +11,12 @@ use Rattle.cursor.specs.Position.{moving}
 use Rattle.cursor.proofs.slice_answer.Symbol as callee
 use Rattle.cursor.proofs.slice_answer.Met as callee-thm
 use Rattle.read_cursor.proofs.ThinN as thin
-use Rattle.read_cursor.proofs.ReadCursor.slice_answer as method
 use Rattle.read_cursor.proofs.ReadCursor.slice_answer.Key as key
 use Rattle.read_cursor.proofs.ReadCursor.slice_answer.Statement as stated
 use Rattle.read_cursor.proofs.ReadCursor.slice_answer.Code as code
 
 abbrev P : thin.Says (plain (λ _. S.the-row))
 P κs pos src n r = r ≡ moving pos (length (now src)) n
-
-agrees : thin.Agrees (plain (λ _. S.the-row)) P method.clauses
-agrees 𝓤 H A mem run = refl
 
 pub slice-answer-spec : {M : Type 1} → stated.statement M
 unfolding code.routine
