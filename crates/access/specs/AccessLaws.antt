@@ -129,3 +129,22 @@ write-is encrypted fixed live h d (r ∷ rs) = by (eqb (r .handle) h) (write-is 
       ≡ writeReply h (written h d) (pick b (writeBy encrypted r) (firstAt h (writeBy encrypted) (room.Denied 0x01) rs))
   by true ih = writes-by encrypted h d (valueOf (r .place) fixed live) r
   by false ih = ih
+
+-- the ways to a room
+module _ (encrypted : Bool) (r : Record) where
+  pub unwritable : r .writable ≡ false → room.Denied 0x03 ≡ writeBy encrypted r
+  unfolding writeBy
+  unwritable a = rw a
+
+  pub unencrypted : r .writable ≡ true → r .«write_encrypted» ≡ true → encrypted ≡ false → room.Denied 0x0F ≡ writeBy encrypted r
+  unfolding writeBy
+  unencrypted a b c = rw (a, b, c)
+
+  pub on-encrypted : (n : ℕ) → r .writable ≡ true → r .«write_encrypted» ≡ true → encrypted ≡ true → n ≡ slotSize (slotOf (r .place))
+      → room.UpTo n ≡ writeBy encrypted r
+  unfolding writeBy
+  on-encrypted n a b c e = rw (a, b, c, e)
+
+  pub for-all : (n : ℕ) → r .writable ≡ true → r .«write_encrypted» ≡ false → n ≡ slotSize (slotOf (r .place)) → room.UpTo n ≡ writeBy encrypted r
+  unfolding writeBy
+  for-all n a b e = rw (a, b, e)

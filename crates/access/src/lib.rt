@@ -2,11 +2,13 @@
 // any value or length is looked at.
 use answers::Link;
 use attributes::Found;
+use attributes::Place;
+use attributes::Record;
 use attributes::Table;
 use reading::Permission;
 ghost use mathlib.Core.Path.{_≡_};
-ghost use Rattle.attributes.specs.Records.{entries};
-ghost use Rattle.access.specs.Access.{readAt};
+ghost use Rattle.attributes.specs.Records.{entries, slotOf, slotSize};
+ghost use Rattle.access.specs.Access.{readAt, writeAt, writeBy};
 
 // Whether a value may be written, and how many bytes of it there may be, or the code that it is refused with.
 pub enum Writable {
@@ -24,5 +26,48 @@ pub fn may_read(t: Table, l: Link, handle: u16) -> Permission
             let r = t.records[i];
             reading::may_read(r, l.encrypted)
         }
+    }
+}
+
+// Writing to it: 01, 03 or 0F where it is denied, else its capacity.
+pub fn may_write(t: Table, l: Link, handle: u16) -> Writable
+    ensures { λ r. ⌜ r ≡ writeAt (l .encrypted) handle (entries t) ⌝ }
+{
+    match table::find(t, handle) {
+        Found::Missing => Writable::Denied(0x01),
+        Found::At(i) => {
+            let r = t.records[i];
+            room(r, l.encrypted)
+        }
+    }
+}
+
+fn room(r: Record, encrypted: bool) -> Writable
+    ensures { λ b. ⌜ b ≡ writeBy encrypted r ⌝ }
+{
+    if !r.writable {
+        return Writable::Denied(0x03);
+    }
+    if r.write_encrypted {
+        if !encrypted {
+            return Writable::Denied(0x0F);
+        }
+        return Writable::UpTo(capacity(r));
+    }
+    Writable::UpTo(capacity(r))
+}
+
+// A fixed value has no room: it is never writable in a sound table.
+fn capacity(r: Record) -> usize
+    ensures { λ n. ⌜ n ≡ slotSize (slotOf (r .place)) ⌝ }
+{
+    let place = r.place;
+    match place {
+        Place::Fixed { at: _, len: _ } => 0,
+        Place::Live {
+            at: _,
+            capacity,
+            len: _,
+        } => capacity,
     }
 }
