@@ -1,0 +1,179 @@
+// What the programs share: the lines of standard input one by one, and the lines that are written.
+//
+// A line is built at positions of a lent buffer: each function answers the position behind what it
+// wrote. The functions that read standard input or write standard output are proved safe and ending,
+// and no more: no contract can say what is read or written. The programs' stored runs show it.
+use codec::Refusal;
+use codec::Written;
+use libc::STDIN_FILENO;
+use libc::STDOUT_FILENO;
+use lines::Lines;
+use lines::Seen;
+use lines::Stepped;
+ghost use Prim.Native.Nat.{_/_, _%_};
+ghost use mathlib.Core.Path.{_≡_};
+ghost use mathlib.Core.Bool.{false};
+ghost use mathlib.Core.List.{[], _∷_};
+ghost use Rattle.print.specs.Print.{capitals, decimalText};
+ghost use Rattle.console.specs.Console.{firstOf, behind, holding, refusal};
+
+// The first bytes of a buffer, so many; none where it has fewer.
+pub fn first(bytes: &[u8], n: usize) -> &[u8]
+    ensures { λ r. ⌜ now r ≡ firstOf n (now (bytes .entry)) ⌝ }
+{
+    if bytes.len() < n {
+        return &bytes[0..0];
+    }
+    &bytes[0..n]
+}
+
+// A text and a number of one byte.
+pub fn byte(out: &mut [u8], pos: usize, name: &[u8], v: u8) -> usize
+    ensures { λ r. ⌜ r ≡ behind (now (name .entry) ∷ capitals (v ∷ []) ∷ []) pos (now (out .entry)) ⌝ }
+    ensures { λ _. ⌜ now (out .exit) ≡ holding (now (name .entry) ∷ capitals (v ∷ []) ∷ []) pos (now (out .entry)) ⌝ }
+{
+    let at = print::text(out, pos, name);
+    print::hex2(out, at, v)
+}
+
+// A text and a number of two bytes.
+pub fn word(out: &mut [u8], pos: usize, name: &[u8], v: u16) -> usize
+    ensures { λ r. ⌜ r ≡ behind (now (name .entry) ∷ capitals (v / 256 ∷ v % 256 ∷ []) ∷ []) pos (now (out .entry)) ⌝ }
+    ensures { λ _. ⌜ now (out .exit) ≡ holding (now (name .entry) ∷ capitals (v / 256 ∷ v % 256 ∷ []) ∷ []) pos (now (out .entry)) ⌝ }
+{
+    let at = print::text(out, pos, name);
+    print::hex4(out, at, v)
+}
+
+// A text and a decimal number.
+pub fn count(out: &mut [u8], pos: usize, name: &[u8], v: u64) -> usize
+    ensures { λ r. ⌜ r ≡ behind (now (name .entry) ∷ decimalText v ∷ []) pos (now (out .entry)) ⌝ }
+    ensures { λ _. ⌜ now (out .exit) ≡ holding (now (name .entry) ∷ decimalText v ∷ []) pos (now (out .entry)) ⌝ }
+{
+    let at = print::text(out, pos, name);
+    print::decimal(out, at, v)
+}
+
+// A refusal's number and name.
+pub fn refused(r: Refusal, out: &mut [u8], pos: usize) -> usize
+    ensures { λ n. ⌜ n ≡ behind (refusal r) pos (now (out .entry)) ⌝ }
+    ensures { λ _. ⌜ now (out .exit) ≡ holding (refusal r) pos (now (out .entry)) ⌝ }
+{
+    let mut spelt = [0u8; 32];
+    let at = count(out, pos, b"refused ", codec::number(r) as u64);
+    let at = print::text(out, at, b" ");
+    match codec::write_name(r, &mut spelt) {
+        Written::Done(n) => print::text(out, at, first(&spelt, n)),
+        Written::Refused(_) => at,
+    }
+}
+
+// Writes the line that ends at a position to standard output.
+pub fn write_line(out: &mut [u8], pos: usize) {
+    let n = print::text(out, pos, b"\n");
+    io::write_all(STDOUT_FILENO, first(out, n));
+}
+
+// A line that cannot be read: `error line K: WHAT`, written to standard output.
+pub fn complain(number: u64, what: &[u8]) {
+    let mut out = [0u8; 64];
+    let at = count(&mut out, 0, b"error line ", number);
+    let at = print::text(&mut out, at, b": ");
+    let at = print::text(&mut out, at, what);
+    write_line(&mut out, at);
+}
+
+// Where the reading of standard input is: in the line that is being read, and in the bytes that the
+// lent buffer holds of the last read.
+pub struct Input {
+    pub lines: Lines,
+    pub at: usize,
+    pub end: usize,
+}
+
+// What came next: a line, what it is, and its number. Where there is no more, `seen` is a last line
+// without LF, or `More` for none.
+pub struct Came {
+    pub input: Input,
+    pub seen: Seen,
+    pub number: u64,
+    pub more: bool,
+}
+
+pub fn start() -> Input
+    ensures { λ r. ⌜ r ≡ record { lines = record { len = 0; long = false; number = 1 }; at = 0; end = 0 } ⌝ }
+{
+    Input {
+        lines: lines::new(),
+        at: 0,
+        end: 0,
+    }
+}
+
+fn reached(s: Stepped, at: usize, end: usize, more: bool) -> Came {
+    let lines = s.lines;
+    let seen = s.seen;
+    Came {
+        input: Input { lines, at, end },
+        seen,
+        number: s.number,
+        more,
+    }
+}
+
+fn unfinished(lines: Lines, at: usize, end: usize, more: bool) -> Came {
+    Came {
+        input: Input { lines, at, end },
+        seen: Seen::More,
+        number: lines.number,
+        more,
+    }
+}
+
+// One byte that was read before; or, where none is left, one read of the input.
+fn turn(input: Input, buf: &mut [u8], line: &mut [u8]) -> Came {
+    let lines = input.lines;
+    let at = input.at;
+    let end = input.end;
+    if at < end {
+        if at < buf.len() {
+            return reached(lines::step(lines, buf[at], line), at + 1, end, true);
+        }
+    }
+    let got = libc::read(STDIN_FILENO, buf);
+    let n = io::count(got, buf);
+    if n == 0 {
+        return reached(lines::last(lines, line), 0, 0, false);
+    }
+    unfinished(lines, 0, n, true)
+}
+
+// Whether the input is not yet at the end of a line, nor at its own.
+fn amid(seen: Seen, more: bool) -> bool {
+    match seen {
+        Seen::More => more,
+        Seen::Line(_) => false,
+        Seen::TooLong => false,
+        Seen::Passed => false,
+    }
+}
+
+// The next line of standard input, in the lent `line`. It reads into the lent `buf` only where a line
+// is not whole yet, so that a line is answered before the next one is needed. A proved loop has to
+// end, so it counts its turns down from a number that no run uses up.
+pub fn next(input: Input, buf: &mut [u8], line: &mut [u8]) -> Came {
+    let mut reading = input;
+    let mut turns = u64::MAX;
+    while turns > 0 {
+        let t = turn(reading, buf, line);
+        let seen = t.seen;
+        if !amid(seen, t.more) {
+            return t;
+        }
+        let input = t.input;
+        reading = input;
+        turns -= 1;
+    }
+    let lines = reading.lines;
+    unfinished(lines, 0, 0, false)
+}
