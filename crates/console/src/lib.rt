@@ -10,11 +10,13 @@ use libc::STDOUT_FILENO;
 use lines::Lines;
 use lines::Seen;
 use lines::Stepped;
+use uuid::Uuid;
 ghost use Prim.Native.Nat.{_/_, _%_};
 ghost use mathlib.Core.Path.{_≡_};
 ghost use mathlib.Core.Bool.{false};
 ghost use mathlib.Core.List.{[], _∷_};
-ghost use Rattle.print.specs.Print.{capitals, decimalText};
+ghost use Rattle.codec.specs.Buffer.{laidAt};
+ghost use Rattle.print.specs.Print.{capitals, hexText, decimalText, typeText};
 ghost use Rattle.console.specs.Console.{firstOf, behind, holding, refusal};
 
 // The first bytes of a buffer, so many; none where it has fewer.
@@ -54,6 +56,24 @@ pub fn count(out: &mut [u8], pos: usize, name: &[u8], v: u64) -> usize
     print::decimal(out, at, v)
 }
 
+// A text and bytes in HEX.
+pub fn hex(out: &mut [u8], pos: usize, name: &[u8], bytes: &[u8]) -> usize
+    ensures { λ r. ⌜ r ≡ behind (now (name .entry) ∷ hexText (now (bytes .entry)) ∷ []) pos (now (out .entry)) ⌝ }
+    ensures { λ _. ⌜ now (out .exit) ≡ holding (now (name .entry) ∷ hexText (now (bytes .entry)) ∷ []) pos (now (out .entry)) ⌝ }
+{
+    let at = print::text(out, pos, name);
+    print::hex(out, at, bytes)
+}
+
+// A text and a TYPE.
+pub fn kind(out: &mut [u8], pos: usize, name: &[u8], u: Uuid) -> usize
+    ensures { λ r. ⌜ r ≡ behind (now (name .entry) ∷ typeText u ∷ []) pos (now (out .entry)) ⌝ }
+    ensures { λ _. ⌜ now (out .exit) ≡ holding (now (name .entry) ∷ typeText u ∷ []) pos (now (out .entry)) ⌝ }
+{
+    let at = print::text(out, pos, name);
+    print::type_text(out, at, u)
+}
+
 // A refusal's number and name.
 pub fn refused(r: Refusal, out: &mut [u8], pos: usize) -> usize
     ensures { λ n. ⌜ n ≡ behind (refusal r) pos (now (out .entry)) ⌝ }
@@ -69,7 +89,9 @@ pub fn refused(r: Refusal, out: &mut [u8], pos: usize) -> usize
 }
 
 // Writes the line that ends at a position to standard output.
-pub fn write_line(out: &mut [u8], pos: usize) {
+pub fn write_line(out: &mut [u8], pos: usize)
+    ensures { λ _. ⌜ now (out .exit) ≡ laidAt pos (10 ∷ []) (now (out .entry)) ⌝ }
+{
     let n = print::text(out, pos, b"\n");
     io::write_all(STDOUT_FILENO, first(out, n));
 }

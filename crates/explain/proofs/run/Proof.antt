@@ -1,4 +1,4 @@
--- Each turn keeps the length of the line's buffer, and the number of turns falls.
+-- Each turn keeps the lengths of the two buffers, and the number of turns falls.
 use mathlib.Core.Path.{_≡_, refl}
 use lib.ListN.{length}
 use native.Mathlib.Omega.{arith}
@@ -6,22 +6,28 @@ use Rattle.explain.proofs.run.Statement.{statement}
 use Rattle.explain.proofs.run.Tie as tie
 
 abbrev Inv-loop : tie.InvT-loop
-Inv-loop line₀ lines₀ turns₀ line lines turns = length line ≡ length line₀
+Inv-loop buf₀ line₀ input₀ turns₀ buf line input turns = (length buf ≡ length buf₀) × (length line ≡ length line₀)
 
 abbrev μ-loop : tie.MeasureT-loop
-μ-loop line₀ lines₀ turns₀ line lines turns = turns
+μ-loop buf₀ line₀ input₀ turns₀ buf line input turns = turns
 
-new-requires : tie.Need-new-requires Inv-loop μ-loop
-new-requires c κs = tt
+start-requires : tie.Need-start-requires Inv-loop μ-loop
+start-requires c κs = tt
 
 loop-holds : tie.Need-loop-holds Inv-loop μ-loop
-loop-holds c = refl
+loop-holds c = (refl, refl)
 
-turn-requires : tie.Need-turn-requires Inv-loop μ-loop
-turn-requires c κs = tt
+next-requires : tie.Need-next-requires Inv-loop μ-loop
+next-requires c κs = tt
+
+answer-requires : tie.Need-answer-requires Inv-loop μ-loop
+answer-requires c κs = tt
 
 same-length : tie.Need-same-length Inv-loop μ-loop
 same-length c = omega arith
+
+same-length-2 : tie.Need-same-length-2 Inv-loop μ-loop
+same-length-2 c = omega arith
 
 returns : tie.Need-returns Inv-loop μ-loop
 returns c = tt
@@ -33,10 +39,13 @@ loop-less : tie.Need-loop-less Inv-loop μ-loop
 loop-less c = omega arith
 
 loop-again : tie.Need-loop-again Inv-loop μ-loop
-loop-again c = omega arith
+loop-again c = (omega arith, omega arith)
 
-same-length-2 : tie.Need-same-length-2 Inv-loop μ-loop
-same-length-2 c = omega arith
+same-length-3 : tie.Need-same-length-3 Inv-loop μ-loop
+same-length-3 c = omega arith
+
+same-length-4 : tie.Need-same-length-4 Inv-loop μ-loop
+same-length-4 c = omega arith
 
 returns-2 : tie.Need-returns-2 Inv-loop μ-loop
 returns-2 c = tt
@@ -47,13 +56,16 @@ run-spec =
     (tie.spec
     Inv-loop
     μ-loop
-    new-requires
+    start-requires
     loop-holds
-    turn-requires
+    next-requires
+    answer-requires
     same-length
+    same-length-2
     returns
     sub-turns
     loop-less
     loop-again
-    same-length-2
+    same-length-3
+    same-length-4
     returns-2)

@@ -2,8 +2,8 @@
 use mathlib.Core.Path.{_≡_, refl}
 use lib.ListN.{length}
 use native.Mathlib.Omega.{arith}
-use Rattle.explain.proofs.items.Statement.{statement}
-use Rattle.explain.proofs.items.Tie as tie
+use Rattle.explain_items.proofs.items.Statement.{statement}
+use Rattle.explain_items.proofs.items.Tie as tie
 
 abbrev Inv-loop : tie.InvT-loop
 Inv-loop op att src out₀ start at₀ pos₀ left₀ out at pos left = length out ≡ length out₀
