@@ -93,3 +93,9 @@ error-is op h code = refl
 pub tells-as : (op : ℕ) (out w : List ℕ) (r : Told) (k m : Coded) → (r ≡ toldBy k op (length out)) × (w ≡ outBy k op out) → k ≡ m
     → (r ≡ toldBy m op (length out)) × (w ≡ outBy m op out)
 tells-as op out w r k m h e = (h .0 ∙ ap (λ (c : Coded). toldBy c op (length out)) e, h .1 ∙ ap (λ (c : Coded). outBy c op out) e)
+
+-- the same where code has the opcode as a number of its own
+pub tells-by : (k : ℕ → Coded) (a op : ℕ) (out w : List ℕ) (r : Told) (m : Coded) → (r ≡ toldBy (k a) a (length out)) × (w ≡ outBy (k a) a out) → a ≡ op → k op ≡ m
+    → (r ≡ toldBy m op (length out)) × (w ≡ outBy m op out)
+tells-by k a op out w r m h e f =
+    tells-as op out w r (k op) m (h .0 ∙ ap (λ (x : ℕ). toldBy (k x) x (length out)) e, h .1 ∙ ap (λ (x : ℕ). outBy (k x) x out) e) f
