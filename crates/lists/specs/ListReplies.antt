@@ -21,6 +21,9 @@ use Rattle.find.specs.declared.Ask.the-variants.{Info, Pair, Typed, Grouped}
 use Rattle.find.specs.declared.Query.{Query}
 use Rattle.telling.specs.Told.{packetOf}
 
+abbrev pub asking : Ask → ℕ → ℕ → Query
+asking ask from to = record { ask = ask; from = from; to = to }
+
 abbrev pub opFor : Ask → ℕ
 opFor Info = 0x04
 opFor Pair = 0x06

@@ -30,10 +30,7 @@ use Rattle.find.specs.declared.Listing.{Listing}
 use Rattle.find.specs.declared.Query.{Query}
 use Rattle.telling.specs.Told.{packetOf, codedOf}
 use Rattle.telling.specs.ToldLaws.{packet-is}
-use Rattle.lists.specs.ListReplies.{opFor, kindOk, answerFor, foundIn, listReply, responseFor, foundCoded}
-
-abbrev pub asking : Ask → ℕ → ℕ → Query
-asking ask from to = record { ask = ask; from = from; to = to }
+use Rattle.lists.specs.ListReplies.{asking, opFor, kindOk, answerFor, foundIn, listReply, responseFor, foundCoded}
 
 module _ (from to : ℕ) (vs : List View) (l : Link) (e : linkOk l ≡ true) where
   pub list-04 : (kind value : List ℕ) → listReply (asking Info from to) kind value vs l ≡ findInformation vs l from to
@@ -119,3 +116,6 @@ module _ (q : Query) (kind value : List ℕ) (t : Table) (l : Link) (fixed live 
     unfolding listReply
     list-coded x e f =
         ap (λ (y : Listing). foundCoded (q .ask) (q .from) (y .found) (y .items)) (f ∙ listing-found) ∙ found-coded (q .ask) (q .from) (foundIn q kind value seen l) ∙ rw (range, e)
+
+pub kind-as : (q : Query) (a b value : List ℕ) (vs : List View) (l : Link) → a ≡ b → codedOf (listReply q a value vs l) ≡ codedOf (listReply q b value vs l)
+kind-as q a b value vs l e = ap (λ (k : List ℕ). codedOf (listReply q k value vs l)) e

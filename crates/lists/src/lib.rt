@@ -8,12 +8,85 @@ use find::Ask;
 use find::Query;
 use listing::Found;
 use telling::Told;
+use uuid::Uuid;
 ghost use mathlib.Core.Path.{_≡_};
+ghost use mathlib.Core.List.{[]};
 ghost use lib.ListN.{length};
+ghost use Rattle.primitives.specs.Numbers.{bytesOf};
+ghost use Rattle.uuid.specs.Uuids.{onAir};
 ghost use Rattle.answers.specs.Contract.{stateOf};
 ghost use Rattle.answers.specs.Serve.{views};
+ghost use Rattle.find.specs.declared.Ask.the-variants.{Info, Pair};
 ghost use Rattle.telling.specs.Told.{codedOf, toldBy, outBy};
-ghost use Rattle.lists.specs.ListReplies.{opFor, kindOk, formatFor, responseFor, listReply, foundCoded};
+ghost use Rattle.lists.specs.ListReplies.{opFor, kindOk, formatFor, responseFor, asking, listReply, foundCoded};
+
+// The answer to 04.
+pub fn find_information<'a>(
+    from: u16,
+    to: u16,
+    t: Table,
+    link: Link,
+    fixed: &'a [u8],
+    live: &'a [u8],
+    out: &mut [u8],
+) -> Told
+    ensures { λ r. ⌜ r ≡ toldBy (codedOf (listReply (asking Info from to) [] [] (views (stateOf t link (now (fixed .entry)) (now (live .entry)))) link)) 0x04 (length (now (out .entry))) ⌝ }
+    ensures { λ _. ⌜ now (out .exit) ≡ outBy (codedOf (listReply (asking Info from to) [] [] (views (stateOf t link (now (fixed .entry)) (now (live .entry)))) link)) 0x04 (now (out .entry)) ⌝ }
+{
+    let query = Query {
+        ask: Ask::Info,
+        from,
+        to,
+    };
+    list(query, b"", b"", t, link, fixed, live, out)
+}
+
+// The answer to 06, for a 16-bit type and a value.
+pub fn find_by_type_value<'a>(
+    from: u16,
+    to: u16,
+    kind: u16,
+    value: &[u8],
+    t: Table,
+    link: Link,
+    fixed: &'a [u8],
+    live: &'a [u8],
+    out: &mut [u8],
+) -> Told
+    ensures { λ r. ⌜ r ≡ toldBy (codedOf (listReply (asking Pair from to) (bytesOf 2 kind) (now (value .entry)) (views (stateOf t link (now (fixed .entry)) (now (live .entry)))) link)) 0x06 (length (now (out .entry))) ⌝ }
+    ensures { λ _. ⌜ now (out .exit) ≡ outBy (codedOf (listReply (asking Pair from to) (bytesOf 2 kind) (now (value .entry)) (views (stateOf t link (now (fixed .entry)) (now (live .entry)))) link)) 0x06 (now (out .entry)) ⌝ }
+{
+    let query = Query {
+        ask: Ask::Pair,
+        from,
+        to,
+    };
+    let own = [(kind % 256) as u8, (kind / 256 % 256) as u8];
+    list(query, &own, value, t, link, fixed, live, out)
+}
+
+// The answer to 08 or 10, for a type.
+pub fn read_by_type<'a>(
+    ask: Ask,
+    from: u16,
+    to: u16,
+    kind: Uuid,
+    t: Table,
+    link: Link,
+    fixed: &'a [u8],
+    live: &'a [u8],
+    out: &mut [u8],
+) -> Told
+    ensures { λ r. ⌜ r ≡ toldBy (codedOf (listReply (asking ask from to) (onAir kind) [] (views (stateOf t link (now (fixed .entry)) (now (live .entry)))) link)) (opFor ask) (length (now (out .entry))) ⌝ }
+    ensures { λ _. ⌜ now (out .exit) ≡ outBy (codedOf (listReply (asking ask from to) (onAir kind) [] (views (stateOf t link (now (fixed .entry)) (now (live .entry)))) link)) (opFor ask) (now (out .entry)) ⌝ }
+{
+    let query = Query { ask, from, to };
+    let raw = uuid::on_air(kind);
+    let n = raw.len;
+    let all = raw.bytes;
+    let own = reading::part(&all, 0, n);
+    list(query, own, b"", t, link, fixed, live, out)
+}
 
 // The answer to one of them: `kind` has the own bytes of the type asked for (06, 08, 10), `value` the
 // value (06).
