@@ -31,7 +31,17 @@ pub fn answer<'a>(
 {
     match req {
         AttReq::ReadByGroupType { start, end } => {
-            let told = lists::read_by_type(Ask::Grouped, start, end, uuid, t, link, fixed, live, out);
+            let told = lists::read_by_type(
+                Ask::Grouped,
+                start,
+                end,
+                uuid,
+                t,
+                link,
+                fixed,
+                live,
+                out,
+            );
             effects::doing(told, Effect::Nothing)
         }
         AttReq::ReadByType { start, end } => {

@@ -57,8 +57,8 @@ returns-2 c =
     let x = first-exchange (a .link) (a .mtu) (i .if1 .left) in
     let k = e .tell .ensures .0 ∙ ap (λ (k : Coded). toldBy k 0x02 (length (a .out .now))) (x .0) in (
       c .doing2 .ensures
-      ∙ ap (λ (t : Told). done t (Agrees (g .agreed .result))) k
-      ∙ ap (done (toldBy (codedOf (exchange (a .link) (a .mtu))) 0x02 (length (a .out .now)))) (ap (λ n. Agrees n) (g .agreed .ensures) ∙ x .1),
+          ∙ ap (λ (t : Told). done t (Agrees (g .agreed .result))) k
+          ∙ ap (done (toldBy (codedOf (exchange (a .link) (a .mtu))) 0x02 (length (a .out .now)))) (ap (λ n. Agrees n) (g .agreed .ensures) ∙ x .1),
       e .tell .ensures .1 ∙ ap (λ (k : Coded). outBy k 0x02 (a .out .now)) (x .0),
     )
 
