@@ -2,7 +2,7 @@
 use Prim.Native.Nat.{ℕ}
 use mathlib.Core.Bool.{Bool, not, _||_}
 use mathlib.Core.List.{List, [], _∷_}
-use lib.Dec.{eqb}
+use lib.Dec.{eqb, leb}
 use Rattle.codec.specs.Cases.{pick}
 use Rattle.attributes.specs.Records.{slotOf, slotSize}
 use Rattle.attributes.specs.declared.Record.{Record}
@@ -26,3 +26,11 @@ writeBy encrypted r =
 
 unfoldable pub writeAt : Bool → ℕ → List Record → Writable
 writeAt encrypted h rs = firstAt h (writeBy encrypted) (Denied 0x01) rs
+
+-- "12 over capacity 0D"
+abbrev pub storeBy : ℕ → Writable → Permission
+storeBy n (UpTo capacity) = pick (leb n capacity) read.Allowed (read.Denied 0x0D)
+storeBy n (Denied code) = read.Denied code
+
+unfoldable pub storeAt : Bool → ℕ → ℕ → List Record → Permission
+storeAt encrypted h n rs = storeBy n (writeAt encrypted h rs)

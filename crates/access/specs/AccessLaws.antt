@@ -6,7 +6,7 @@ use mathlib.Core.List.{List, [], _∷_, map}
 use native.Mathlib.Omega.{arith}
 use lib.ListN.{length, take, getD, length-take}
 use lib.Seq.{getD-take}
-use lib.Dec.{eqb}
+use lib.Dec.{eqb, leb}
 use Rattle.codec.specs.Cases.{pick}
 use Rattle.attributes.specs.Records.{findFrom, slotOf, slotSize, valueOf}
 use Rattle.attributes.specs.FindLaws.{found-from}
@@ -19,8 +19,9 @@ use Rattle.reading.specs.PermissionsLaws.{reading-is}
 use Rattle.reading.specs.declared.Permission.{Permission}
 use Rattle.reading.specs.declared.Permission.the-variants as read
 use Rattle.answers.specs.View.{View, view, Reading, Value, NoRead, Writing, UpTo, NoWrite, readingOf, writingOf}
-use Rattle.answers.specs.Replies.{Reply, at, reading, writing, error}
-use Rattle.access.specs.Access.{firstAt, readAt, writeBy, writeAt}
+use Rattle.att.specs.Wire.{meaning}
+use Rattle.answers.specs.Replies.{Reply, Packet, Stores, doing, at, reading, writing, write, error}
+use Rattle.access.specs.Access.{firstAt, readAt, writeBy, writeAt, storeBy, storeAt}
 use Rattle.access.specs.declared.Writable.{Writable}
 use Rattle.access.specs.declared.Writable.the-variants as room
 
@@ -129,6 +130,30 @@ write-is encrypted fixed live h d (r ∷ rs) = by (eqb (r .handle) h) (write-is 
       ≡ writeReply h (written h d) (pick b (writeBy encrypted r) (firstAt h (writeBy encrypted) (room.Denied 0x01) rs))
   by true ih = writes-by encrypted h d (valueOf (r .place) fixed live) r
   by false ih = ih
+
+-- a reply that stores: the answer to 12, and what 52 does
+abbrev pub storeReply : ℕ → List ℕ → Permission → Reply
+storeReply h d read.Allowed = doing (Packet (meaning 0x13 [] [])) (Stores h d)
+storeReply h d (read.Denied code) = error 0x12 h code
+
+stores-by : (h : ℕ) (d : List ℕ) (w : Writable) → writeReply h (written h d) w ≡ storeReply h d (storeBy (length d) w)
+unfolding writing
+stores-by h d (room.UpTo c) = by (leb (length d) c) where
+  by : (b : Bool) → pick b (doing (Packet (meaning 0x13 [] [])) (Stores h d)) (error 0x12 h 0x0D) ≡ storeReply h d (pick b read.Allowed (read.Denied 0x0D))
+  by true = refl
+  by false = refl
+stores-by h d (room.Denied code) = refl
+
+pub store-is : (encrypted : Bool) (fixed live : List ℕ) (h : ℕ) (d : List ℕ) (rs : List Record)
+    → write (map (view encrypted) (map (item fixed live) rs)) h d ≡ storeReply h d (storeAt encrypted h (length d) rs)
+unfolding write storeAt
+store-is encrypted fixed live h d rs = write-is encrypted fixed live h d rs ∙ stores-by h d (writeAt encrypted h rs)
+
+-- the value that is found
+pub value-is : (fixed live : List ℕ) (h : ℕ) (rs : List Record)
+    → valueAt h (map (item fixed live) rs) ≡ firstAt h (λ r. valueOf (r .place) fixed live) [] rs
+value-is fixed live h [] = refl
+value-is fixed live h (r ∷ rs) = ap (λ (l : List ℕ). pick (eqb (r .handle) h) (valueOf (r .place) fixed live) l) (value-is fixed live h rs)
 
 -- the ways to a room
 module _ (encrypted : Bool) (r : Record) where

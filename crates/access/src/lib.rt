@@ -7,8 +7,9 @@ use attributes::Record;
 use attributes::Table;
 use reading::Permission;
 ghost use mathlib.Core.Path.{_≡_};
+ghost use Rattle.attributes.specs.Ledger.{itemsOf, valueAt};
 ghost use Rattle.attributes.specs.Records.{entries, slotOf, slotSize};
-ghost use Rattle.access.specs.Access.{readAt, writeAt, writeBy};
+ghost use Rattle.access.specs.Access.{readAt, writeAt, writeBy, storeAt};
 
 // Whether a value may be written, and how many bytes of it there may be, or the code that it is refused with.
 pub enum Writable {
@@ -38,6 +39,35 @@ pub fn may_write(t: Table, l: Link, handle: u16) -> Writable
         Found::At(i) => {
             let r = t.records[i];
             room(r, l.encrypted)
+        }
+    }
+}
+
+// Storing a value of `len` bytes there: the same, and 0D where it is over the capacity.
+pub fn may_store(t: Table, l: Link, handle: u16, len: usize) -> Permission
+    ensures { λ r. ⌜ r ≡ storeAt (l .encrypted) handle len (entries t) ⌝ }
+{
+    match may_write(t, l, handle) {
+        Writable::Denied(code) => Permission::Denied(code),
+        Writable::UpTo(capacity) => {
+            if capacity < len {
+                return Permission::Denied(0x0D);
+            }
+            Permission::Allowed
+        }
+    }
+}
+
+// The value at a handle, whatever the marks; none where there is no attribute.
+pub fn value_at<'a>(t: Table, handle: u16, fixed: &'a [u8], live: &'a [u8]) -> &'a [u8]
+    ensures { λ r. ⌜ now r ≡ valueAt handle (itemsOf t (now (fixed .entry)) (now (live .entry))) ⌝ }
+{
+    match table::find(t, handle) {
+        Found::Missing => reading::part(fixed, 0, 0),
+        Found::At(i) => {
+            let r = t.records[i];
+            let place = r.place;
+            reading::value(place, fixed, live)
         }
     }
 }

@@ -8,19 +8,24 @@ use lib.Dec.{leb}
 use Rattle.codec.specs.Buffer.{over, laid}
 use Rattle.codec.specs.Cases.{pick}
 use Rattle.uuid.specs.Uuids.{noUuid}
-use Rattle.att.specs.Wire.{Coded, Sent, NotSent}
-use Rattle.att.specs.Typed.{encoded}
+use Rattle.att.specs.Wire.{Coded, Sent, NotSent, send}
+use Rattle.att.specs.Typed.{encoded, showRsp, partOk, meansShown}
 use Rattle.att.specs.declared.Att.the-variants.{Server}
 use Rattle.att.specs.declared.AttRsp.{AttRsp}
 use Rattle.att.specs.declared.AttServer.the-variants.{Response}
+use Rattle.answers.specs.Replies.{Says, Packet, Silence, Refuses, Reply}
 use Rattle.answers.specs.Serve.{unlikely}
 use Rattle.telling.specs.declared.Told.{Told}
 
 abbrev pub told : ℕ → Bool → Told
 told n meant = record { len = n; meant = meant }
 
+-- a typed answer as the wire sends it, and as the encoder has it: that also asks for a length which the machine can count
 unfoldable pub packetOf : AttRsp → List ℕ → Coded
-packetOf rsp src = encoded (Server (Response rsp)) noUuid src
+packetOf rsp src = pick (partOk (showRsp rsp .part) src) (send (meansShown (showRsp rsp) noUuid src)) NotSent
+
+unfoldable pub encodedOf : AttRsp → List ℕ → Coded
+encodedOf rsp src = encoded (Server (Response rsp)) noUuid src
 
 abbrev pub unlikelyTold : ℕ → ℕ → Told
 unlikelyTold op room = pick (leb (length (unlikely op)) room) (told (length (unlikely op)) false) (told 0 false)
@@ -32,3 +37,12 @@ toldBy NotSent op room = unlikelyTold op room
 abbrev pub outBy : Coded → ℕ → List ℕ → List ℕ
 outBy (Sent b) op out = pick (leb (length b) (length out)) (over b out) (laid (unlikely op) out)
 outBy NotSent op out = laid (unlikely op) out
+
+-- what the encoder makes of a reply that is a packet
+abbrev pub codedBy : Says → Coded
+codedBy (Packet m) = send m
+codedBy Silence = NotSent
+codedBy (Refuses r) = NotSent
+
+abbrev pub codedOf : Reply → Coded
+codedOf r = codedBy (r .says)

@@ -11,8 +11,10 @@ ghost use lib.ListN.{length};
 ghost use Rattle.codec.specs.Buffer.{laid};
 ghost use Rattle.uuid.specs.Uuids.{noUuid};
 ghost use Rattle.att.specs.Typed.{writtenOf, laidOf};
+ghost use Rattle.att.specs.Wire.{send};
+ghost use Rattle.answers.specs.Replies.{errorPacket};
 ghost use Rattle.answers.specs.Serve.{unlikely};
-ghost use Rattle.telling.specs.Told.{packetOf, unlikelyTold, toldBy, outBy};
+ghost use Rattle.telling.specs.Told.{packetOf, encodedOf, unlikelyTold, toldBy, outBy};
 
 // How many bytes went out, and whether they are the packet that was meant.
 pub struct Told {
@@ -32,6 +34,19 @@ pub fn tell(rsp: AttRsp, src: &[u8], op: u8, out: &mut [u8]) -> Told
         },
         Written::Refused(_) => tell_unlikely(op, out),
     }
+}
+
+// An error: 01, the request's opcode, handle, code.
+pub fn error(op: u8, handle: u16, code: u8, out: &mut [u8]) -> Told
+    ensures { λ r. ⌜ r ≡ toldBy (send (errorPacket op handle code)) op (length (now (out .entry))) ⌝ }
+    ensures { λ _. ⌜ now (out .exit) ≡ outBy (send (errorPacket op handle code)) op (now (out .entry)) ⌝ }
+{
+    let answer = AttRsp::Error {
+        request: op,
+        handle,
+        code,
+    };
+    tell(answer, b"", op, out)
 }
 
 fn tell_unlikely(op: u8, out: &mut [u8]) -> Told
@@ -56,8 +71,8 @@ fn tell_unlikely(op: u8, out: &mut [u8]) -> Told
 }
 
 fn encode(rsp: AttRsp, src: &[u8], out: &mut [u8]) -> Written
-    ensures { λ r. ⌜ r ≡ writtenOf (packetOf rsp (now (src .entry))) (now (out .entry)) ⌝ }
-    ensures { λ _. ⌜ now (out .exit) ≡ laidOf (packetOf rsp (now (src .entry))) (now (out .entry)) ⌝ }
+    ensures { λ r. ⌜ r ≡ writtenOf (encodedOf rsp (now (src .entry))) (now (out .entry)) ⌝ }
+    ensures { λ _. ⌜ now (out .exit) ≡ laidOf (encodedOf rsp (now (src .entry))) (now (out .entry)) ⌝ }
 {
     att_encode::encode(Att::Server(AttServer::Response(rsp)), no_uuid(), src, out)
 }

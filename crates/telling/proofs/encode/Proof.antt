@@ -1,6 +1,6 @@
 -- The encoder's own contract, at the UUID that stands for none.
 use mathlib.Core.Path.{_≡_, refl, sym, ap, _∙_}
-use Rattle.telling.specs.Told.{packetOf}
+use Rattle.telling.specs.Told.{encodedOf}
 use borrow.Author.Needs.{needs}
 use Rattle.telling.proofs.encode.Statement.{statement}
 use Rattle.telling.proofs.encode.Tie as tie
@@ -15,7 +15,7 @@ same-length : tie.Need-same-length
 same-length c = search needs
 
 returns : tie.Need-returns
-unfolding packetOf
+unfolding encodedOf
 returns c = let e = c .before .before in
     rw (sym (e .before .before .no-uuid .ensures)) (e .encode .ensures)
 

@@ -1,0 +1,82 @@
+// Document 01, "How a packet is served", 0A and 0C: the value at a handle, from its start or from an
+// offset on, at most MTU - 1 bytes of it.
+//
+// The permission is asked first: a value or its length is looked at only where the link may read it.
+use answers::Link;
+use att::AttRsp;
+use att::Span;
+use attributes::Table;
+use reading::Permission;
+use telling::Told;
+ghost use Prim.Native.Nat.{_-_, min};
+ghost use mathlib.Core.Path.{_≡_};
+ghost use lib.ListN.{length};
+ghost use Rattle.answers.specs.Contract.{stateOf};
+ghost use Rattle.answers.specs.Replies as book;
+ghost use Rattle.answers.specs.Serve.{views};
+ghost use Rattle.telling.specs.Told.{codedOf, toldBy, outBy};
+
+// The answer to 0A.
+pub fn read<'a>(
+    t: Table,
+    link: Link,
+    handle: u16,
+    fixed: &'a [u8],
+    live: &'a [u8],
+    out: &mut [u8],
+) -> Told
+    ensures { λ r. ⌜ r ≡ toldBy (codedOf (book.read (views (stateOf t link (now (fixed .entry)) (now (live .entry)))) link handle)) 0x0A (length (now (out .entry))) ⌝ }
+    ensures { λ _. ⌜ now (out .exit) ≡ outBy (codedOf (book.read (views (stateOf t link (now (fixed .entry)) (now (live .entry)))) link handle)) 0x0A (now (out .entry)) ⌝ }
+{
+    match access::may_read(t, link, handle) {
+        Permission::Denied(code) => telling::error(0x0A, handle, code, out),
+        Permission::Allowed => {
+            let value = access::value_at(t, handle, fixed, live);
+            let len = cut(value.len(), link.mtu);
+            let data = Span { at: 0, len };
+            telling::tell(AttRsp::Read { data }, value, 0x0A, out)
+        }
+    }
+}
+
+// The answer to 0C: an offset over the length is error 07, one at the end gives no bytes.
+pub fn read_blob<'a>(
+    t: Table,
+    link: Link,
+    handle: u16,
+    offset: u16,
+    fixed: &'a [u8],
+    live: &'a [u8],
+    out: &mut [u8],
+) -> Told
+    ensures { λ r. ⌜ r ≡ toldBy (codedOf (book.blob (views (stateOf t link (now (fixed .entry)) (now (live .entry)))) link handle offset)) 0x0C (length (now (out .entry))) ⌝ }
+    ensures { λ _. ⌜ now (out .exit) ≡ outBy (codedOf (book.blob (views (stateOf t link (now (fixed .entry)) (now (live .entry)))) link handle offset)) 0x0C (now (out .entry)) ⌝ }
+{
+    match access::may_read(t, link, handle) {
+        Permission::Denied(code) => telling::error(0x0C, handle, code, out),
+        Permission::Allowed => {
+            let value = access::value_at(t, handle, fixed, live);
+            let at = offset as usize;
+            if value.len() < at {
+                return telling::error(0x0C, handle, 0x07, out);
+            }
+            let len = cut(value.len() - at, link.mtu);
+            let data = Span { at, len };
+            telling::tell(AttRsp::ReadBlob { data }, value, 0x0C, out)
+        }
+    }
+}
+
+// At most MTU - 1 of so many bytes.
+fn cut(n: usize, mtu: u16) -> usize
+    ensures { λ r. ⌜ r ≡ min (mtu - 1) n ⌝ }
+{
+    if mtu == 0 {
+        return 0;
+    }
+    let most = (mtu - 1) as usize;
+    if most < n {
+        return most;
+    }
+    n
+}

@@ -1,0 +1,2 @@
+pub mod ListReplies
+pub mod ListRepliesLaws
