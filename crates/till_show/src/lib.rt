@@ -1,0 +1,163 @@
+// The lines of `show`. A line is built at positions of a lent buffer: each function answers the position
+// behind what it wrote. Those that write to standard output answer nothing and change nothing.
+use answers::Link;
+use attributes::Place;
+use attributes::Record;
+use attributes::Table;
+use codec::Refusal;
+ghost use mathlib.Core.Path.{_≡_};
+ghost use mathlib.Core.Bool.{false};
+ghost use mathlib.Core.List.{[], _∷_};
+ghost use Rattle.codec.specs.Cases.{pick};
+ghost use Rattle.console.specs.Console.{behind, holding};
+ghost use Rattle.till_show.specs.Show.{linkTexts, headTexts, recordMarks, placeTexts, recordTexts};
+
+// A mark's letter where the mark is set, and nothing where it is not.
+fn letter(set: bool, name: &[u8]) -> &[u8]
+    ensures { λ r. ⌜ now r ≡ pick set (now (name .entry)) [] ⌝ }
+{
+    if set {
+        return name;
+    }
+    &name[0..0]
+}
+
+// Whether neither of two marks is set, nor any of the rest.
+fn neither(a: bool, b: bool, rest: bool) -> bool
+    ensures { λ r. ⌜ r ≡ pick a false (pick b false rest) ⌝ }
+{
+    if a {
+        return false;
+    }
+    if b {
+        return false;
+    }
+    rest
+}
+
+// Two marks.
+fn marks(out: &mut [u8], pos: usize, a: bool, first: &[u8], b: bool, second: &[u8]) -> usize
+    ensures { λ r. ⌜ r ≡ behind (pick a (now (first .entry)) [] ∷ pick b (now (second .entry)) [] ∷ []) pos (now (out .entry)) ⌝ }
+    ensures { λ _. ⌜ now (out .exit) ≡ holding (pick a (now (first .entry)) [] ∷ pick b (now (second .entry)) [] ∷ []) pos (now (out .entry)) ⌝ }
+{
+    let at = print::text(out, pos, letter(a, first));
+    print::text(out, at, letter(b, second))
+}
+
+// `link mtu=N marks=MARKS`
+fn link_line(link: Link, out: &mut [u8]) -> usize
+    ensures { λ r. ⌜ r ≡ behind (linkTexts link) 0 (now (out .entry)) ⌝ }
+    ensures { λ _. ⌜ now (out .exit) ≡ holding (linkTexts link) 0 (now (out .entry)) ⌝ }
+{
+    let at = console::count(out, 0, b"link mtu=", link.mtu as u64);
+    let at = print::text(out, at, b" marks=");
+    let at = marks(out, at, link.encrypted, b"e", link.exchanged, b"x");
+    let none = neither(link.encrypted, link.exchanged, true);
+    print::text(out, at, letter(none, b"-"))
+}
+
+// `record HANDLE TYPE`
+fn head(r: Record, out: &mut [u8]) -> usize
+    ensures { λ n. ⌜ n ≡ behind (headTexts r) 0 (now (out .entry)) ⌝ }
+    ensures { λ _. ⌜ now (out .exit) ≡ holding (headTexts r) 0 (now (out .entry)) ⌝ }
+{
+    let kind = r.kind;
+    let at = console::word(out, 0, b"record ", r.handle);
+    console::kind(out, at, b" ", kind)
+}
+
+// ` MARKS`
+fn record_marks(r: Record, out: &mut [u8], pos: usize) -> usize
+    ensures { λ n. ⌜ n ≡ behind (recordMarks r) pos (now (out .entry)) ⌝ }
+    ensures { λ _. ⌜ now (out .exit) ≡ holding (recordMarks r) pos (now (out .entry)) ⌝ }
+{
+    let at = print::text(out, pos, b" ");
+    let at = marks(out, at, r.readable, b"r", r.writable, b"w");
+    let at = marks(out, at, r.read_encrypted, b"R", r.write_encrypted, b"W");
+    let sealed = neither(r.read_encrypted, r.write_encrypted, true);
+    let none = neither(r.readable, r.writable, sealed);
+    print::text(out, at, letter(none, b"-"))
+}
+
+// ` fixed at=AT` or ` live at=AT capacity=N`
+fn place_text(place: Place, out: &mut [u8], pos: usize) -> usize
+    ensures { λ n. ⌜ n ≡ behind (placeTexts place) pos (now (out .entry)) ⌝ }
+    ensures { λ _. ⌜ now (out .exit) ≡ holding (placeTexts place) pos (now (out .entry)) ⌝ }
+{
+    match place {
+        Place::Fixed { at, len: _ } => console::count(out, pos, b" fixed at=", at as u64),
+        Place::Live {
+            at,
+            capacity,
+            len: _,
+        } => {
+            let next = console::count(out, pos, b" live at=", at as u64);
+            console::count(out, next, b" capacity=", capacity as u64)
+        }
+    }
+}
+
+// A record with its value.
+fn record_line(r: Record, value: &[u8], out: &mut [u8]) -> usize
+    ensures { λ n. ⌜ n ≡ behind (recordTexts r (now (value .entry))) 0 (now (out .entry)) ⌝ }
+    ensures { λ _. ⌜ now (out .exit) ≡ holding (recordTexts r (now (value .entry))) 0 (now (out .entry)) ⌝ }
+{
+    let place = r.place;
+    let at = head(r, out);
+    let at = record_marks(r, out, at);
+    let at = place_text(place, out, at);
+    console::hex(out, at, b" value=", value)
+}
+
+fn show_link(link: Link) {
+    let mut out = [0u8; 64];
+    let at = link_line(link, &mut out);
+    console::write_line(&mut out, at);
+}
+
+// The record with the number i, with its value as the till's own lookup has it.
+fn show_record<'a>(table: Table, i: usize, fixed: &'a [u8], live: &'a [u8]) {
+    let mut out = [0u8; 2048];
+    if 64 <= i {
+        return;
+    }
+    let r = table.records[i];
+    let value = table::lookup(table, r.handle, fixed, live);
+    let at = record_line(r, value, &mut out);
+    console::write_line(&mut out, at);
+}
+
+fn show_records<'a>(table: Table, fixed: &'a [u8], live: &'a [u8]) {
+    let mut i = 0;
+    while i < table.count {
+        show_record(table, i, fixed, live);
+        i += 1;
+    }
+}
+
+// All live bytes: up to 40,000 of them, two digits each.
+fn show_live(live: &[u8]) {
+    let mut out = [0u8; 80016];
+    let at = console::hex(&mut out, 0, b"live ", live);
+    console::write_line(&mut out, at);
+}
+
+fn show_unsound() {
+    let mut out = [0u8; 64];
+    let at = console::refused(Refusal::BadTable, &mut out, 0);
+    console::write_line(&mut out, at);
+}
+
+// The state, with the bytes of the areas that are in use.
+pub fn show<'a>(table: Table, link: Link, fixed: &'a [u8], live: &'a [u8]) {
+    let mut out = [0u8; 8];
+    show_link(link);
+    if table::sound(table, fixed, live) {
+        show_records(table, fixed, live);
+        show_live(live);
+    } else {
+        show_unsound();
+    }
+    let at = print::text(&mut out, 0, b"end");
+    console::write_line(&mut out, at);
+}

@@ -1,0 +1,20 @@
+-- `till_state::start` meets its contract: no bytes have an empty table.
+use Rattle.till_state.specs.TillsLaws.{begun}
+use borrow.Author.Needs.{needs}
+use Rattle.till_state.proofs.start.Statement.{statement}
+use Rattle.till_state.proofs.start.Tie as tie
+
+slice-aggregate-first : tie.Need-slice-aggregate-first
+slice-aggregate-first c = search needs
+
+first-requires : tie.Need-first-requires
+first-requires c κs = search needs
+
+new-requires : tie.Need-new-requires
+new-requires c κs = search needs
+
+returns : tie.Need-returns
+returns c = begun _ _ (c .before .before .first .ensures) (c .before .new .ensures)
+
+pub start-spec : {M : Type 1} → statement M
+start-spec = tie.close (tie.spec slice-aggregate-first first-requires new-requires returns)
