@@ -21,6 +21,14 @@ fn two(out: &mut [u8], pos: usize, a: &[u8], v: u16, b: &[u8], w: u16) -> usize 
     console::word(out, at, b, w)
 }
 
+fn handles(out: &mut [u8], pos: usize, start: u16, end: u16) -> usize {
+    two(out, pos, b" start_handle=", start, b" end_handle=", end)
+}
+
+fn place(out: &mut [u8], pos: usize, handle: u16, offset: u16) -> usize {
+    two(out, pos, b" handle=", handle, b" offset=", offset)
+}
+
 fn request(r: AttReq, uuid: Uuid, src: &[u8], out: &mut [u8]) -> usize {
     let at = print::text(out, 0, b"client request ");
     match r {
@@ -44,14 +52,8 @@ fn request(r: AttReq, uuid: Uuid, src: &[u8], out: &mut [u8]) -> usize {
             att_type,
             att_value,
         } => {
-            let at = two(
-                out,
-                at,
-                b"FindByTypeValue start_handle=",
-                start_handle,
-                b" end_handle=",
-                end_handle,
-            );
+            let at = print::text(out, at, b"FindByTypeValue");
+            let at = handles(out, at, start_handle, end_handle);
             let at = console::word(out, at, b" att_type=", att_type);
             part(out, at, b" att_value=", src, att_value)
         }
@@ -59,34 +61,23 @@ fn request(r: AttReq, uuid: Uuid, src: &[u8], out: &mut [u8]) -> usize {
             start_handle,
             end_handle,
         } => {
-            two(
-                out,
-                at,
-                b"FindInformation start_handle=",
-                start_handle,
-                b" end_handle=",
-                end_handle,
-            )
+            let at = print::text(out, at, b"FindInformation");
+            handles(out, at, start_handle, end_handle)
         }
         AttReq::PrepareWrite {
             handle,
             offset,
             value,
         } => {
-            let at = two(
-                out,
-                at,
-                b"PrepareWrite handle=",
-                handle,
-                b" offset=",
-                offset,
-            );
+            let at = print::text(out, at, b"PrepareWrite");
+            let at = place(out, at, handle, offset);
             part(out, at, b" value=", src, value)
         }
         AttReq::ExecuteWrite { flags } => console::byte(out, at, b"ExecuteWrite flags=", flags),
         AttReq::ReadMultiple { handles } => part(out, at, b"ReadMultiple handles=", src, handles),
         AttReq::ReadBlob { handle, offset } => {
-            two(out, at, b"ReadBlob handle=", handle, b" offset=", offset)
+            let at = print::text(out, at, b"ReadBlob");
+            place(out, at, handle, offset)
         }
     }
 }
