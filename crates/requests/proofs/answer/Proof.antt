@@ -4,7 +4,7 @@ use lib.ListN.{length}
 use Rattle.answers.specs.Contract.{stateOf}
 use Rattle.answers.specs.Serve.{views}
 use Rattle.effects.specs.SaidLaws.{exchange-says}
-use Rattle.requests.specs.RequestsLaws.{arm, quiet-arm, value-told, read-quiet, blob-quiet, list-quiet}
+use Rattle.requests.specs.RequestsLaws.{arm, quiet-arm, read-quiet, blob-quiet, list-quiet}
 use borrow.Author.Needs.{needs}
 use Rattle.requests.proofs.answer.Statement.{statement}
 use Rattle.requests.proofs.answer.Tie as tie
@@ -12,29 +12,20 @@ use Rattle.requests.proofs.answer.Tie as tie
 enum-known-req : tie.Need-enum-known-req
 enum-known-req c = search needs
 
-read-by-type-requires : tie.Need-read-by-type-requires
-read-by-type-requires c κs = search needs
-
-doing-requires : tie.Need-doing-requires
-doing-requires c κs = search needs
+by-type-requires : tie.Need-by-type-requires
+by-type-requires c κs = search needs
 
 enum-known-req-2 : tie.Need-enum-known-req-2
 enum-known-req-2 c = search needs
 
-read-by-type-requires-2 : tie.Need-read-by-type-requires-2
-read-by-type-requires-2 c κs = search needs
-
-doing-requires-2 : tie.Need-doing-requires-2
-doing-requires-2 c κs = search needs
+by-type-requires-2 : tie.Need-by-type-requires-2
+by-type-requires-2 c κs = search needs
 
 enum-known-req-3 : tie.Need-enum-known-req-3
 enum-known-req-3 c = search needs
 
 read-requires : tie.Need-read-requires
 read-requires c κs = search needs
-
-doing-requires-3 : tie.Need-doing-requires-3
-doing-requires-3 c κs = search needs
 
 enum-known-req-4 : tie.Need-enum-known-req-4
 enum-known-req-4 c = search needs
@@ -51,23 +42,14 @@ exchange-requires c κs = search needs
 enum-known-req-6 : tie.Need-enum-known-req-6
 enum-known-req-6 c = search needs
 
-part-requires : tie.Need-part-requires
-part-requires c κs = search needs
-
-find-by-type-value-requires : tie.Need-find-by-type-value-requires
-find-by-type-value-requires c κs = search needs
-
-doing-requires-4 : tie.Need-doing-requires-4
-doing-requires-4 c κs = search needs
+by-value-requires : tie.Need-by-value-requires
+by-value-requires c κs = search needs
 
 enum-known-req-7 : tie.Need-enum-known-req-7
 enum-known-req-7 c = search needs
 
-find-information-requires : tie.Need-find-information-requires
-find-information-requires c κs = search needs
-
-doing-requires-5 : tie.Need-doing-requires-5
-doing-requires-5 c κs = search needs
+information-requires : tie.Need-information-requires
+information-requires c κs = search needs
 
 enum-told : tie.Need-enum-told
 enum-told c = search needs
@@ -90,41 +72,38 @@ refuse-requires-3 c κs = search needs
 enum-known-req-8 : tie.Need-enum-known-req-8
 enum-known-req-8 c = search needs
 
-read-blob-requires : tie.Need-read-blob-requires
-read-blob-requires c κs = search needs
-
-doing-requires-6 : tie.Need-doing-requires-6
-doing-requires-6 c κs = search needs
+blob-requires : tie.Need-blob-requires
+blob-requires c κs = search needs
 
 same-length : tie.Need-same-length
 same-length c = search needs
 
 returns : tie.Need-returns
 returns c =
-    let e = c .before .before .before in
+    let e = c .before .before in
     let k = e .before .before .before in
     let a = k .before .before .before .before .before .before .args in
-    quiet-arm (a .t) (a .link) (a .fixed .now) (a .live .now) (a .src .now) (a .uuid) (a .out .now) _ _ (a .req) _ (k .req .given .1) _ (e .read-by-type .ensures) (list-quiet _ _ _ (views (stateOf (a .t) (a .link) (a .fixed .now) (a .live .now))) (a .link)) (c .doing .ensures)
+    quiet-arm (a .t) (a .link) (a .fixed .now) (a .live .now) (a .src .now) (a .uuid) (a .out .now) _ _ (a .req) _ (k .req .given .1) _ (refl, e .by-type .ensures .1) (list-quiet _ _ _ (views (stateOf (a .t) (a .link) (a .fixed .now) (a .live .now))) (a .link)) (e .by-type .ensures .0)
 
 same-length-2 : tie.Need-same-length-2
 same-length-2 c = search needs
 
 returns-2 : tie.Need-returns-2
 returns-2 c =
-    let e = c .before .before .before in
+    let e = c .before .before in
     let k = e .before .before .before in
     let a = k .before .before .before .before .before .before .args in
-    quiet-arm (a .t) (a .link) (a .fixed .now) (a .live .now) (a .src .now) (a .uuid) (a .out .now) _ _ (a .req) _ (k .req2 .given .1) _ (e .read-by-type2 .ensures) (list-quiet _ _ _ (views (stateOf (a .t) (a .link) (a .fixed .now) (a .live .now))) (a .link)) (c .doing2 .ensures)
+    quiet-arm (a .t) (a .link) (a .fixed .now) (a .live .now) (a .src .now) (a .uuid) (a .out .now) _ _ (a .req) _ (k .req2 .given .1) _ (refl, e .by-type2 .ensures .1) (list-quiet _ _ _ (views (stateOf (a .t) (a .link) (a .fixed .now) (a .live .now))) (a .link)) (e .by-type2 .ensures .0)
 
 same-length-3 : tie.Need-same-length-3
 same-length-3 c = search needs
 
 returns-3 : tie.Need-returns-3
 returns-3 c =
-    let e = c .before .before .before in
+    let e = c .before .before in
     let k = e .before .before .before in
     let a = k .before .before .before .before .before .before .args in
-    quiet-arm (a .t) (a .link) (a .fixed .now) (a .live .now) (a .src .now) (a .uuid) (a .out .now) _ _ (a .req) _ (k .req3 .given .1) _ (e .read .ensures) (read-quiet (views (stateOf (a .t) (a .link) (a .fixed .now) (a .live .now))) (a .link) _) (c .doing3 .ensures)
+    quiet-arm (a .t) (a .link) (a .fixed .now) (a .live .now) (a .src .now) (a .uuid) (a .out .now) _ _ (a .req) _ (k .req3 .given .1) _ (refl, e .read .ensures .1) (read-quiet (views (stateOf (a .t) (a .link) (a .fixed .now) (a .live .now))) (a .link) _) (e .read .ensures .0)
 
 same-length-4 : tie.Need-same-length-4
 same-length-4 c = search needs
@@ -151,22 +130,20 @@ same-length-6 c = search needs
 
 returns-6 : tie.Need-returns-6
 returns-6 c =
-    let e = c .before .before .before in
-    let p = e .before .before in
-    let k = p .before .before in
+    let e = c .before .before in
+    let k = e .before .before .before in
     let a = k .before .before .before .before .before .before .args in
-    quiet-arm (a .t) (a .link) (a .fixed .now) (a .live .now) (a .src .now) (a .uuid) (a .out .now) _ _ (a .req) _ (k .req6 .given .1) _
-    (value-told _ _ _ (a .out .now) (views (stateOf (a .t) (a .link) (a .fixed .now) (a .live .now))) (a .link) _ _ _ _ (p .part .ensures) (e .find-by-type-value .ensures)) (list-quiet _ _ _ (views (stateOf (a .t) (a .link) (a .fixed .now) (a .live .now))) (a .link)) (c .doing4 .ensures)
+    quiet-arm (a .t) (a .link) (a .fixed .now) (a .live .now) (a .src .now) (a .uuid) (a .out .now) _ _ (a .req) _ (k .req6 .given .1) _ (refl, e .by-value .ensures .1) (list-quiet _ _ _ (views (stateOf (a .t) (a .link) (a .fixed .now) (a .live .now))) (a .link)) (e .by-value .ensures .0)
 
 same-length-7 : tie.Need-same-length-7
 same-length-7 c = search needs
 
 returns-7 : tie.Need-returns-7
 returns-7 c =
-    let e = c .before .before .before in
+    let e = c .before .before in
     let k = e .before .before .before in
     let a = k .before .before .before .before .before .before .args in
-    quiet-arm (a .t) (a .link) (a .fixed .now) (a .live .now) (a .src .now) (a .uuid) (a .out .now) _ _ (a .req) _ (k .req7 .given .1) _ (e .find-information .ensures) (list-quiet _ _ _ (views (stateOf (a .t) (a .link) (a .fixed .now) (a .live .now))) (a .link)) (c .doing5 .ensures)
+    quiet-arm (a .t) (a .link) (a .fixed .now) (a .live .now) (a .src .now) (a .uuid) (a .out .now) _ _ (a .req) _ (k .req7 .given .1) _ (refl, e .information .ensures .1) (list-quiet _ _ _ (views (stateOf (a .t) (a .link) (a .fixed .now) (a .live .now))) (a .link)) (e .information .ensures .0)
 
 same-length-8 : tie.Need-same-length-8
 same-length-8 c = search needs
@@ -203,35 +180,29 @@ same-length-11 c = search needs
 
 returns-11 : tie.Need-returns-11
 returns-11 c =
-    let e = c .before .before .before in
+    let e = c .before .before in
     let k = e .before .before .before in
     let a = k .before .before .before .before .before .before .args in
-    quiet-arm (a .t) (a .link) (a .fixed .now) (a .live .now) (a .src .now) (a .uuid) (a .out .now) _ _ (a .req) _ (k .req8 .given .1) _ (e .read-blob .ensures) (blob-quiet (views (stateOf (a .t) (a .link) (a .fixed .now) (a .live .now))) (a .link) _ _) (c .doing6 .ensures)
+    quiet-arm (a .t) (a .link) (a .fixed .now) (a .live .now) (a .src .now) (a .uuid) (a .out .now) _ _ (a .req) _ (k .req8 .given .1) _ (refl, e .blob .ensures .1) (blob-quiet (views (stateOf (a .t) (a .link) (a .fixed .now) (a .live .now))) (a .link) _ _) (e .blob .ensures .0)
 
 pub answer-spec : {M : Type 1} → statement M
 answer-spec =
     tie.close
     (tie.spec
     enum-known-req
-    read-by-type-requires
-    doing-requires
+    by-type-requires
     enum-known-req-2
-    read-by-type-requires-2
-    doing-requires-2
+    by-type-requires-2
     enum-known-req-3
     read-requires
-    doing-requires-3
     enum-known-req-4
     write-requires
     enum-known-req-5
     exchange-requires
     enum-known-req-6
-    part-requires
-    find-by-type-value-requires
-    doing-requires-4
+    by-value-requires
     enum-known-req-7
-    find-information-requires
-    doing-requires-5
+    information-requires
     enum-told
     refuse-requires
     enum-told-2
@@ -239,8 +210,7 @@ answer-spec =
     enum-told-3
     refuse-requires-3
     enum-known-req-8
-    read-blob-requires
-    doing-requires-6
+    blob-requires
     same-length
     returns
     same-length-2
