@@ -21,7 +21,7 @@ pub enum Writable {
 pub fn may_read(t: Table, l: Link, handle: u16) -> Permission
     ensures { λ r. ⌜ r ≡ readAt (l .encrypted) handle (entries t) ⌝ }
 {
-    match table::find(t, handle) {
+    match records::find(t, handle) {
         Found::Missing => Permission::Denied(0x01),
         Found::At(i) => {
             let r = t.records[i];
@@ -34,7 +34,7 @@ pub fn may_read(t: Table, l: Link, handle: u16) -> Permission
 pub fn may_write(t: Table, l: Link, handle: u16) -> Writable
     ensures { λ r. ⌜ r ≡ writeAt (l .encrypted) handle (entries t) ⌝ }
 {
-    match table::find(t, handle) {
+    match records::find(t, handle) {
         Found::Missing => Writable::Denied(0x01),
         Found::At(i) => {
             let r = t.records[i];
@@ -62,12 +62,12 @@ pub fn may_store(t: Table, l: Link, handle: u16, len: usize) -> Permission
 pub fn value_at<'a>(t: Table, handle: u16, fixed: &'a [u8], live: &'a [u8]) -> &'a [u8]
     ensures { λ r. ⌜ now r ≡ valueAt handle (itemsOf t (now (fixed .entry)) (now (live .entry))) ⌝ }
 {
-    match table::find(t, handle) {
-        Found::Missing => reading::part(fixed, 0, 0),
+    match records::find(t, handle) {
+        Found::Missing => records::part(fixed, 0, 0),
         Found::At(i) => {
             let r = t.records[i];
             let place = r.place;
-            reading::value(place, fixed, live)
+            records::value(place, fixed, live)
         }
     }
 }

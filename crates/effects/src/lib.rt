@@ -64,7 +64,7 @@ pub fn write(t: Table, link: Link, handle: u16, data: Span, src: &[u8], out: &mu
 {
     let at = data.at;
     let len = data.len;
-    let value = reading::part(src, at, len);
+    let value = records::part(src, at, len);
     match access::may_store(t, link, handle, value.len()) {
         Permission::Denied(code) => {
             let told = telling::error(0x12, handle, code, out);
@@ -83,7 +83,7 @@ pub fn command(t: Table, link: Link, handle: u16, data: Span, src: &[u8]) -> Eff
 {
     let at = data.at;
     let len = data.len;
-    let value = reading::part(src, at, len);
+    let value = records::part(src, at, len);
     match access::may_store(t, link, handle, value.len()) {
         Permission::Denied(_) => Effect::Nothing,
         Permission::Allowed => Effect::Stores { handle, data },

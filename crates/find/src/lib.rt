@@ -180,12 +180,12 @@ fn take_item<'a>(
         }
         Ask::Pair => listing::append(head, &fixed[0..0], room + 1, state, items),
         Ask::Typed => {
-            let value = reading::value(place, fixed, live);
-            listing::append(head, reading::part(value, 0, mtu - 4), room, state, items)
+            let value = records::value(place, fixed, live);
+            listing::append(head, records::part(value, 0, mtu - 4), room, state, items)
         }
         Ask::Grouped => {
-            let value = reading::value(place, fixed, live);
-            listing::append(head, reading::part(value, 0, mtu - 6), room, state, items)
+            let value = records::value(place, fixed, live);
+            listing::append(head, records::part(value, 0, mtu - 6), room, state, items)
         }
     }
 }

@@ -84,7 +84,7 @@ pub fn read_by_type<'a>(
     let raw = uuid::on_air(kind);
     let n = raw.len;
     let all = raw.bytes;
-    let own = reading::part(&all, 0, n);
+    let own = records::part(&all, 0, n);
     list(query, own, b"", t, link, fixed, live, out)
 }
 

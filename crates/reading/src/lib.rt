@@ -52,39 +52,10 @@ pub fn has_type(r: Record, kind: &[u8]) -> bool
     uuid::equal_types(&all[0..n], kind)
 }
 
-// The value of a record at this place, as a part of the fixed or of the live bytes.
-pub fn value<'a>(place: Place, fixed: &'a [u8], live: &'a [u8]) -> &'a [u8]
-    ensures { λ r. ⌜ now r ≡ valueOf place (now (fixed .entry)) (now (live .entry)) ⌝ }
-{
-    match place {
-        Place::Fixed { at, len } => part(fixed, at, len),
-        Place::Live {
-            at,
-            capacity: _,
-            len,
-        } => part(live, at, len),
-    }
-}
-
 // Whether the whole value is this one.
 pub fn holds<'a>(place: Place, fixed: &'a [u8], live: &'a [u8], wanted: &[u8]) -> bool
     ensures { λ b. ⌜ b ≡ same (valueOf place (now (fixed .entry)) (now (live .entry))) (now (wanted .entry)) ⌝ }
 {
-    let held = value(place, fixed, live);
+    let held = records::value(place, fixed, live);
     check::same(held, wanted)
-}
-
-// The part of `len` bytes from `at` on, cut where the slice ends.
-pub fn part(s: &[u8], at: usize, len: usize) -> &[u8]
-    ensures { λ r. ⌜ now r ≡ take len (drop at (now (s .entry))) ⌝ }
-{
-    let n = s.len();
-    if n < at {
-        return &s[n..];
-    }
-    if n - at < len {
-        return &s[at..];
-    }
-    let e = at + len;
-    &s[at..e]
 }

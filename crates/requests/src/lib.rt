@@ -121,7 +121,7 @@ fn by_value<'a>(
 {
     let at = value.at;
     let len = value.len;
-    let whole = reading::part(src, at, len);
+    let whole = records::part(src, at, len);
     let told = lists::find_by_type_value(from, to, kind, whole, t, link, fixed, live, out);
     effects::doing(told, Effect::Nothing)
 }

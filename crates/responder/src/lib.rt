@@ -120,7 +120,7 @@ fn change(
         Effect::Stores { handle, data } => {
             let at = data.at;
             let len = data.len;
-            let value = reading::part(packet, at, len);
+            let value = records::part(packet, at, len);
             let stored = table::store(table, handle, value, fixed, live);
             let next = stored.table;
             Served {

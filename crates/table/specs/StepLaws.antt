@@ -40,8 +40,6 @@ use Rattle.rules.specs.declared.Walked.{Walked}
 use Rattle.table.specs.Steps.{refusing, withRecord, storedAs, storedAsLive}
 
 -- all 64 records count where the count is above 64
-pub take-most : (n : ℕ) (l : List Record) → length l ≡ 64 → 64 < n → take 64 l ≡ take n l
-take-most n l e h = take-all 64 l (omega arith) ∙ sym (take-all n l (omega arith))
 
 -- A store into a record that was found, by its place.
 module _ (t : Table) (i : ℕ) (r : Record) (v live : List ℕ) where

@@ -15,10 +15,10 @@ use codec::Refusal;
 use uuid::Form;
 use uuid::Uuid;
 ghost use mathlib.Core.Path.{_≡_};
-ghost use Prim.Native.Nat.{_≤_, _<_};
-ghost use lib.ListN.{length, take, drop};
+ghost use Prim.Native.Nat.{_<_};
+ghost use lib.ListN.{length};
 ghost use Rattle.codec.specs.Buffer.{laidAt};
-ghost use Rattle.attributes.specs.Records.{entries, valueOf, lengthened, findIn};
+ghost use Rattle.attributes.specs.Records.{lengthened};
 ghost use Rattle.attributes.specs.Soundness.{soundTable};
 ghost use Rattle.attributes.specs.Ledger.{lookupRefusal, lookedUp};
 ghost use Rattle.attributes.specs.Additions.{emptyTable, newTable, freshPlace, fresh, appended, added};
@@ -90,30 +90,20 @@ pub fn add(t: Table, a: Addition, fixed: &[u8], live: &[u8]) -> Changed
     }
 }
 
-// The number of the first record with this handle.
-pub fn find(t: Table, handle: u16) -> Found
-    ensures { λ r. ⌜ r ≡ findIn handle (entries t) ⌝ }
-{
-    if 64 < t.count {
-        return find_among(t, 64, handle);
-    }
-    find_among(t, t.count, handle)
-}
-
 // An attribute's value, as a part of the fixed or of the live bytes. It is empty on a refusal, which
 // `lookup_refusal` tells.
 pub fn lookup<'a>(t: Table, handle: u16, fixed: &'a [u8], live: &'a [u8]) -> &'a [u8]
     ensures { λ r. ⌜ now r ≡ lookedUp t handle (now (fixed .entry)) (now (live .entry)) ⌝ }
 {
     if !sound_for(t, fixed.len(), live.len()) {
-        return part(fixed, 0, 0);
+        return records::part(fixed, 0, 0);
     }
-    match find(t, handle) {
-        Found::Missing => part(fixed, 0, 0),
+    match records::find(t, handle) {
+        Found::Missing => records::part(fixed, 0, 0),
         Found::At(i) => {
             let r = t.records[i];
             let place = r.place;
-            value(place, fixed, live)
+            records::value(place, fixed, live)
         }
     }
 }
@@ -124,7 +114,7 @@ pub fn lookup_refusal(t: Table, handle: u16, fixed: &[u8], live: &[u8]) -> Outco
     if !sound_for(t, fixed.len(), live.len()) {
         return Outcome::Refused(Refusal::BadTable);
     }
-    match find(t, handle) {
+    match records::find(t, handle) {
         Found::Missing => Outcome::Refused(Refusal::UnknownHandle),
         Found::At(_) => Outcome::Accepted,
     }
@@ -139,28 +129,13 @@ pub fn store(t: Table, handle: u16, value: &[u8], fixed: &[u8], live: &mut [u8])
     if !sound_for(t, fixed.len(), live.len()) {
         return refuse(t, Refusal::BadTable);
     }
-    match find(t, handle) {
+    match records::find(t, handle) {
         Found::Missing => refuse(t, Refusal::UnknownHandle),
         Found::At(i) => {
             let r = t.records[i];
             store_record(t, i, r, value, live)
         }
     }
-}
-
-fn find_among(t: Table, n: usize, handle: u16) -> Found
-    requires { ⌜ n ≤ 64 ⌝ }
-    ensures { λ r. ⌜ r ≡ findIn handle (take n (t .records)) ⌝ }
-{
-    let mut i = 0usize;
-    while i < n {
-        let r = t.records[i];
-        if r.handle == handle {
-            return Found::At(i);
-        }
-        i += 1;
-    }
-    Found::Missing
 }
 
 fn refuse(t: Table, why: Refusal) -> Changed
@@ -235,33 +210,6 @@ fn append(t: Table, r: Record) -> Table
     next.records[n] = r;
     next.count = n + 1;
     next
-}
-
-fn part(s: &[u8], at: usize, len: usize) -> &[u8]
-    ensures { λ r. ⌜ now r ≡ take len (drop at (now (s .entry))) ⌝ }
-{
-    let n = s.len();
-    if n < at {
-        return &s[n..];
-    }
-    if n - at < len {
-        return &s[at..];
-    }
-    let e = at + len;
-    &s[at..e]
-}
-
-fn value<'a>(place: Place, fixed: &'a [u8], live: &'a [u8]) -> &'a [u8]
-    ensures { λ r. ⌜ now r ≡ valueOf place (now (fixed .entry)) (now (live .entry)) ⌝ }
-{
-    match place {
-        Place::Fixed { at, len } => part(fixed, at, len),
-        Place::Live {
-            at,
-            capacity: _,
-            len: held,
-        } => part(live, at, held),
-    }
 }
 
 // A value into the slot of the record `r`, which has the number `i`.

@@ -11,10 +11,7 @@ use Rattle.table.proofs.lookup.Statement.{statement}
 use Rattle.table.proofs.lookup.Tie as tie
 use Rattle.table.proofs.lookup.Reads as reads
 use Rattle.table.proofs.lookup.Lts as lts
-use Rattle.table.proofs.find.Reads as find-reads
-use Rattle.table.proofs.part.Reads as part-reads
 use Rattle.table.proofs.sound_for.Reads as sound-for-reads
-use Rattle.table.proofs.value.Reads as value-reads
 
 full : (c : tie.Start) → length (c .args .t1 .records) ≡ 64
 full c = search (needs, length-mapped)

@@ -9,7 +9,6 @@ use Rattle.table.proofs.lookup_refusal.Statement.{statement}
 use Rattle.table.proofs.lookup_refusal.Tie as tie
 use Rattle.table.proofs.lookup_refusal.Reads as reads
 use Rattle.table.proofs.lookup_refusal.Lts as lts
-use Rattle.table.proofs.find.Reads as find-reads
 use Rattle.table.proofs.sound_for.Reads as sound-for-reads
 
 full : (c : tie.Start) → length (c .args .t .records) ≡ 64

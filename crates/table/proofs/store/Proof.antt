@@ -11,7 +11,6 @@ use Rattle.table.proofs.store.Statement.{statement}
 use Rattle.table.proofs.store.Tie as tie
 use Rattle.table.proofs.store.Reads as reads
 use Rattle.table.proofs.store.Lts as lts
-use Rattle.table.proofs.find.Reads as find-reads
 use Rattle.table.proofs.refuse.Reads as refuse-reads
 use Rattle.table.proofs.sound_for.Reads as sound-for-reads
 use Rattle.table.proofs.store_record.Reads as store-record-reads

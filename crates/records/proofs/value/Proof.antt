@@ -1,36 +1,28 @@
+-- Each arm knows its place.
 use mathlib.Core.Path.{ap, sym, _∙_}
 use Rattle.attributes.specs.declared.Place.{Place}
 use Rattle.attributes.specs.Records.{valueOf}
 use borrow.Author.Needs.{needs}
-use Rattle.table.proofs.value.Statement.{statement}
-use Rattle.table.proofs.value.Tie as tie
-use Rattle.table.proofs.value.Reads as reads
-use Rattle.table.proofs.value.Lts as lts
-use Rattle.table.proofs.part.Reads as part-reads
+use Rattle.records.proofs.value.Statement.{statement}
+use Rattle.records.proofs.value.Tie as tie
 
--- src/lib.rt:411:24
 enum-known-place : tie.Need-enum-known-place
 enum-known-place c = search needs
 
--- src/lib.rt:411:37
 part-requires : tie.Need-part-requires
 part-requires c κs = search needs
 
--- src/lib.rt:412:23
 enum-known-place-2 : tie.Need-enum-known-place-2
 enum-known-place-2 c = search needs
 
--- src/lib.rt:412:49
 part-requires-2 : tie.Need-part-requires-2
 part-requires-2 c κs = search needs
 
--- src/lib.rt:407:1
 returns : tie.Need-returns
 returns c =
     let a = c .before .before .before .before .before .before .args in
     c .part .ensures ∙ sym (ap (λ (p : Place). valueOf p (a .fixed .now) (a .live .now)) (c .before .before .place .given .1))
 
--- src/lib.rt:407:1
 returns-2 : tie.Need-returns-2
 returns-2 c =
     let a = c .before .before .before .before .before .before .args in

@@ -7,10 +7,8 @@ use lib.ListN.{length, take, drop}
 use Rattle.attributes.specs.FindLaws.{find-here, find-next, find-none}
 use Rattle.attributes.specs.ListLaws.{length-mapped}
 use Rattle.attributes.specs.Records.{findFrom}
-use Rattle.table.proofs.find_among.Statement.{statement}
-use Rattle.table.proofs.find_among.Tie as tie
-use Rattle.table.proofs.find_among.Reads as reads
-use Rattle.table.proofs.find_among.Lts as lts
+use Rattle.records.proofs.find_among.Statement.{statement}
+use Rattle.records.proofs.find_among.Tie as tie
 
 abbrev Inv-loop : tie.InvT-loop
 Inv-loop n handle t i₀ i = (i ≤ n) × (findFrom 0 handle (take n (t .records)) ≡ findFrom i handle (drop i (take n (t .records))))
@@ -21,41 +19,33 @@ abbrev μ-loop : tie.MeasureT-loop
 long : (c : tie.Start Inv-loop μ-loop) → c .args .n ≤ length (c .args .t1 .records)
 long c = let e : length (c .args .t1 .records) ≡ 64 = search (needs, length-mapped) in omega arith
 
--- src/lib.rt:309:5
 loop-holds : tie.Need-loop-holds Inv-loop μ-loop
 loop-holds c = (omega arith, refl)
 
--- src/lib.rt:310:17
 mul-r : tie.Need-mul-r Inv-loop μ-loop
 mul-r c = search needs
 
--- src/lib.rt:310:17
 element-copy-out-r : tie.Need-element-copy-out-r Inv-loop μ-loop
 element-copy-out-r c = search needs
 
--- src/lib.rt:312:13
 returns : tie.Need-returns Inv-loop μ-loop
 returns c =
     let l = c .before .before .before .before in
     let a = l .before .args in
     sym (l .loop .inv .1 ∙ find-here (a .handle) (l .loop .i) (a .n) (a .t1 .records) _ (omega arith) (long (l .before)) (c .if1 .taken))
 
--- src/lib.rt:314:9
 add-i : tie.Need-add-i Inv-loop μ-loop
 add-i c = omega arith
 
--- src/lib.rt:309:5
 loop-less : tie.Need-loop-less Inv-loop μ-loop
 loop-less c = omega arith
 
--- src/lib.rt:309:5
 loop-again : tie.Need-loop-again Inv-loop μ-loop
 loop-again c =
     let l = c .before .before .before .before in
     let a = l .before .args in
     (omega arith, l .loop .inv .1 ∙ find-next (a .handle) (l .loop .i) (a .n) (a .t1 .records) _ (omega arith) (long (l .before)) (c .if1 .left))
 
--- src/lib.rt:304:1
 returns-2 : tie.Need-returns-2 Inv-loop μ-loop
 returns-2 c =
     let l = c .before in
