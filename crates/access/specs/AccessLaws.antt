@@ -149,12 +149,6 @@ pub store-is : (encrypted : Bool) (fixed live : List ℕ) (h : ℕ) (d : List �
 unfolding write storeAt
 store-is encrypted fixed live h d rs = write-is encrypted fixed live h d rs ∙ stores-by h d (writeAt encrypted h rs)
 
--- the value that is found
-pub value-is : (fixed live : List ℕ) (h : ℕ) (rs : List Record)
-    → valueAt h (map (item fixed live) rs) ≡ firstAt h (λ r. valueOf (r .place) fixed live) [] rs
-value-is fixed live h [] = refl
-value-is fixed live h (r ∷ rs) = ap (λ (l : List ℕ). pick (eqb (r .handle) h) (valueOf (r .place) fixed live) l) (value-is fixed live h rs)
-
 -- the ways to a room
 module _ (encrypted : Bool) (r : Record) where
   pub unwritable : r .writable ≡ false → room.Denied 0x03 ≡ writeBy encrypted r

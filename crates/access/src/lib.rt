@@ -7,7 +7,6 @@ use attributes::Record;
 use attributes::Table;
 use reading::Permission;
 ghost use mathlib.Core.Path.{_≡_};
-ghost use Rattle.attributes.specs.Ledger.{itemsOf, valueAt};
 ghost use Rattle.attributes.specs.Records.{entries, slotOf, slotSize};
 ghost use Rattle.access.specs.Access.{readAt, writeAt, writeBy, storeAt};
 
@@ -54,20 +53,6 @@ pub fn may_store(t: Table, l: Link, handle: u16, len: usize) -> Permission
                 return Permission::Denied(0x0D);
             }
             Permission::Allowed
-        }
-    }
-}
-
-// The value at a handle, whatever the marks; none where there is no attribute.
-pub fn value_at<'a>(t: Table, handle: u16, fixed: &'a [u8], live: &'a [u8]) -> &'a [u8]
-    ensures { λ r. ⌜ now r ≡ valueAt handle (itemsOf t (now (fixed .entry)) (now (live .entry))) ⌝ }
-{
-    match records::find(t, handle) {
-        Found::Missing => records::part(fixed, 0, 0),
-        Found::At(i) => {
-            let r = t.records[i];
-            let place = r.place;
-            records::value(place, fixed, live)
         }
     }
 }

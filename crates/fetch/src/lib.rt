@@ -31,7 +31,7 @@ pub fn read<'a>(
     match access::may_read(t, link, handle) {
         Permission::Denied(code) => telling::error(0x0A, handle, code, out),
         Permission::Allowed => {
-            let value = access::value_at(t, handle, fixed, live);
+            let value = records::value_at(t, handle, fixed, live);
             let len = cut(value.len(), link.mtu);
             let data = Span { at: 0, len };
             telling::tell(AttRsp::Read { data }, value, 0x0A, out)
@@ -55,7 +55,7 @@ pub fn read_blob<'a>(
     match access::may_read(t, link, handle) {
         Permission::Denied(code) => telling::error(0x0C, handle, code, out),
         Permission::Allowed => {
-            let value = access::value_at(t, handle, fixed, live);
+            let value = records::value_at(t, handle, fixed, live);
             let at = offset as usize;
             if value.len() < at {
                 return telling::error(0x0C, handle, 0x07, out);

@@ -6,6 +6,7 @@ use attributes::Table;
 ghost use Prim.Native.Nat.{_≤_};
 ghost use mathlib.Core.Path.{_≡_};
 ghost use lib.ListN.{take, drop};
+ghost use Rattle.attributes.specs.Ledger.{itemsOf, valueAt};
 ghost use Rattle.attributes.specs.Records.{entries, valueOf, findIn};
 
 // The number of the first record with this handle.
@@ -31,6 +32,20 @@ fn find_among(t: Table, n: usize, handle: u16) -> Found
         i += 1;
     }
     Found::Missing
+}
+
+// The value at a handle, whatever the marks; none where there is no attribute.
+pub fn value_at<'a>(t: Table, handle: u16, fixed: &'a [u8], live: &'a [u8]) -> &'a [u8]
+    ensures { λ r. ⌜ now r ≡ valueAt handle (itemsOf t (now (fixed .entry)) (now (live .entry))) ⌝ }
+{
+    match find(t, handle) {
+        Found::Missing => part(fixed, 0, 0),
+        Found::At(i) => {
+            let r = t.records[i];
+            let place = r.place;
+            value(place, fixed, live)
+        }
+    }
 }
 
 // The value of a record at this place, as a part of the fixed or of the live bytes.

@@ -98,14 +98,7 @@ pub fn lookup<'a>(t: Table, handle: u16, fixed: &'a [u8], live: &'a [u8]) -> &'a
     if !sound_for(t, fixed.len(), live.len()) {
         return records::part(fixed, 0, 0);
     }
-    match records::find(t, handle) {
-        Found::Missing => records::part(fixed, 0, 0),
-        Found::At(i) => {
-            let r = t.records[i];
-            let place = r.place;
-            records::value(place, fixed, live)
-        }
-    }
+    records::value_at(t, handle, fixed, live)
 }
 
 pub fn lookup_refusal(t: Table, handle: u16, fixed: &[u8], live: &[u8]) -> Outcome
