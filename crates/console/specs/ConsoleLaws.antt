@@ -40,12 +40,12 @@ pub one-as : (s t : List ℕ) (pos : ℕ) (out : List ℕ) (r : ℕ) (w : List �
     → Wrote (t ∷ []) pos out r w
 one-as s t pos out r w e p = one t pos out r w (rw e at p)
 
-behind-append : (xs ys : List (List ℕ)) (pos : ℕ) (out : List ℕ) → behind (xs ++ ys) pos out ≡ behind ys (behind xs pos out) (holding xs pos out)
+pub behind-append : (xs ys : List (List ℕ)) (pos : ℕ) (out : List ℕ) → behind (xs ++ ys) pos out ≡ behind ys (behind xs pos out) (holding xs pos out)
 unfolding behind holding
 behind-append [] ys pos out = refl
 behind-append (x ∷ xs) ys pos out = behind-append xs ys (placed pos x out) (laidAt pos x out)
 
-holding-append : (xs ys : List (List ℕ)) (pos : ℕ) (out : List ℕ) → holding (xs ++ ys) pos out ≡ holding ys (behind xs pos out) (holding xs pos out)
+pub holding-append : (xs ys : List (List ℕ)) (pos : ℕ) (out : List ℕ) → holding (xs ++ ys) pos out ≡ holding ys (behind xs pos out) (holding xs pos out)
 unfolding behind holding
 holding-append [] ys pos out = refl
 holding-append (x ∷ xs) ys pos out = holding-append xs ys (placed pos x out) (laidAt pos x out)
