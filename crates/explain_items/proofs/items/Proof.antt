@@ -42,9 +42,11 @@ loop-again : tie.Need-loop-again Inv-loop μ-loop
 loop-again c =
     let i = c .before .before .before .before in
     let l = i .before .before .before in
-    let a = l .before .before .before .args in
-    (omega arith, more-written (kindOf (a .op)) (a .att) (a .src .now) (a .start) (a .out .now) _ (l .loop .at) (l .loop .out) (l .loop .pos) (l .loop .left) _ _ (l .loop .inv .1) (omega arith) (i .item .ensures)
-    (unflipped _ (c .if1 .left)))
+    let a = l .before .before .before .args in (
+      omega arith,
+      more-written (kindOf (a .op)) (a .att) (a .src .now) (a .start) (a .out .now) _ (l .loop .at) (l .loop .out) (l .loop .pos) (l .loop .left) _ _ (l .loop .inv .1) (omega arith) (i .item .ensures)
+          (unflipped _ (c .if1 .left)),
+    )
 
 same-length-2 : tie.Need-same-length-2 Inv-loop μ-loop
 same-length-2 c = omega arith
