@@ -16,7 +16,7 @@ ghost use Rattle.att.specs.Typed.{showAtt};
 ghost use Rattle.att_items.specs.Iterators.{eachBy, fitted, ofLayout, itemShown, pairAt, pairOf, informationAt, informationOf, valueOf, restOf};
 
 // The bytes of an item in the received bytes, and the position behind it; or the end.
-enum Step {
+pub enum Step {
     Item { at: usize, len: usize, next: usize },
     End,
 }

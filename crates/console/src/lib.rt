@@ -1,8 +1,8 @@
 // What the programs share: the lines of standard input one by one, and the lines that are written.
 //
 // A line is built at positions of a lent buffer: each function answers the position behind what it
-// wrote. The functions that read standard input or write standard output are proved safe and ending,
-// and no more: no contract can say what is read or written. The programs' stored runs show it.
+// wrote. No contract can say what is read from standard input or written to standard output: the
+// programs' stored runs show it.
 use codec::Refusal;
 use codec::Written;
 use libc::STDIN_FILENO;
@@ -15,9 +15,11 @@ ghost use Prim.Native.Nat.{_/_, _%_};
 ghost use mathlib.Core.Path.{_≡_};
 ghost use mathlib.Core.Bool.{false};
 ghost use mathlib.Core.List.{[], _∷_};
+ghost use lib.ListN.{length, replicate};
 ghost use Rattle.codec.specs.Buffer.{laidAt};
+ghost use Rattle.lines.specs.declared.Seen.the-variants.{More};
 ghost use Rattle.print.specs.Print.{capitals, hexText, decimalText, typeText};
-ghost use Rattle.console.specs.Console.{firstOf, behind, holding, refusal};
+ghost use Rattle.console.specs.Console.{firstOf, behind, holding, refusal, complaintTexts, amidOf};
 
 // The first bytes of a buffer, so many; none where it has fewer.
 pub fn first(bytes: &[u8], n: usize) -> &[u8]
@@ -96,13 +98,24 @@ pub fn write_line(out: &mut [u8], pos: usize)
     io::write_all(STDOUT_FILENO, first(out, n));
 }
 
-// A line that cannot be read: `error line K: WHAT`, written to standard output.
-pub fn complain(number: u64, what: &[u8]) {
+// What is said of a line that cannot be read: `error line K: WHAT`.
+pub fn complaint(out: &mut [u8], pos: usize, number: u64, what: &[u8]) -> usize
+    ensures { λ r. ⌜ r ≡ behind (complaintTexts number (now (what .entry))) pos (now (out .entry)) ⌝ }
+    ensures { λ _. ⌜ now (out .exit) ≡ holding (complaintTexts number (now (what .entry))) pos (now (out .entry)) ⌝ }
+{
+    let at = count(out, pos, b"error line ", number);
+    let at = print::text(out, at, b": ");
+    print::text(out, at, what)
+}
+
+// Writes that line to standard output, and answers the position behind its text.
+pub fn complain(number: u64, what: &[u8]) -> usize
+    ensures { λ r. ⌜ r ≡ behind (complaintTexts number (now (what .entry))) 0 (replicate 64 0) ⌝ }
+{
     let mut out = [0u8; 64];
-    let at = count(&mut out, 0, b"error line ", number);
-    let at = print::text(&mut out, at, b": ");
-    let at = print::text(&mut out, at, what);
+    let at = complaint(&mut out, 0, number, what);
     write_line(&mut out, at);
+    at
 }
 
 // Where the reading of standard input is: in the line that is being read, and in the bytes that the
@@ -143,7 +156,10 @@ fn reached(s: Stepped, at: usize, end: usize, more: bool) -> Came {
     }
 }
 
-fn unfinished(lines: Lines, at: usize, end: usize, more: bool) -> Came {
+fn unfinished(lines: Lines, at: usize, end: usize, more: bool) -> Came
+    ensures { λ r. ⌜ r .seen ≡ More ⌝ }
+    ensures { λ r. ⌜ r .more ≡ more ⌝ }
+{
     Came {
         input: Input { lines, at, end },
         seen: Seen::More,
@@ -171,7 +187,9 @@ fn turn(input: Input, buf: &mut [u8], line: &mut [u8]) -> Came {
 }
 
 // Whether the input is not yet at the end of a line, nor at its own.
-fn amid(seen: Seen, more: bool) -> bool {
+fn amid(seen: Seen, more: bool) -> bool
+    ensures { λ r. ⌜ r ≡ amidOf seen more ⌝ }
+{
     match seen {
         Seen::More => more,
         Seen::Line(_) => false,
@@ -183,7 +201,14 @@ fn amid(seen: Seen, more: bool) -> bool {
 // The next line of standard input, in the lent `line`. It reads into the lent `buf` only where a line
 // is not whole yet, so that a line is answered before the next one is needed. A proved loop has to
 // end, so it counts its turns down from a number that no run uses up.
-pub fn next(input: Input, buf: &mut [u8], line: &mut [u8]) -> Came {
+//
+// What is read may be anything, so the contract has what holds of every read: the two buffers are as
+// long as before, and what came is a line or the end of the input.
+pub fn next(input: Input, buf: &mut [u8], line: &mut [u8]) -> Came
+    ensures { λ r. ⌜ amidOf (r .seen) (r .more) ≡ false ⌝ }
+    ensures { λ _. ⌜ length (now (buf .exit)) ≡ length (now (buf .entry)) ⌝ }
+    ensures { λ _. ⌜ length (now (line .exit)) ≡ length (now (line .entry)) ⌝ }
+{
     let mut reading = input;
     let mut turns = u64::MAX;
     while turns > 0 {

@@ -70,8 +70,12 @@ fn answer_line(line: &[u8], number: u64) {
     let mut src = [0u8; 2048];
     match hex::read_hex(line, &mut src) {
         Hex::Bytes(n) => answer_packet(console::first(&src, n)),
-        Hex::NotHex => console::complain(number, b"not hexadecimal"),
-        Hex::TooLong => console::complain(number, b"too long"),
+        Hex::NotHex => {
+            console::complain(number, b"not hexadecimal");
+        }
+        Hex::TooLong => {
+            console::complain(number, b"too long");
+        }
     }
 }
 
@@ -79,7 +83,9 @@ fn answer(seen: Seen, number: u64, line: &[u8]) {
     match seen {
         Seen::More => {}
         Seen::Line(n) => answer_line(console::first(line, n), number),
-        Seen::TooLong => console::complain(number, b"too long"),
+        Seen::TooLong => {
+            console::complain(number, b"too long");
+        }
         Seen::Passed => {}
     }
 }

@@ -1,12 +1,14 @@
 // Packets in words: the items of a response.
 //
-// A line is built at positions of a lent buffer that has room for the longest answer: each function
-// answers the position behind what it wrote. It is proved safe and ending; that the words are those of
-// the programs' page is shown by the stored run of explain, made from document 01.
+// A line is built at positions of a lent buffer: each function answers the position behind what it
+// wrote. The texts of the items are in specs/, as the programs' page has them.
 use att::Att;
 use att_items::HandlePair;
 use att_items::HandleUuid;
 use att_items::HandleValue;
+ghost use mathlib.Core.Path.{_≡_};
+ghost use Rattle.console.specs.Console.{behind, holding};
+ghost use Rattle.explain_items.specs.Items.{informations, ranges, values, kindOf, stepIn, shownAs, lineAs, itemsTexts};
 
 // What an item was written as: the position behind it on the line, and the position of the next item;
 // or that there is none.
@@ -17,7 +19,10 @@ struct Shown {
 }
 
 // An item of Find By Type Value Response.
-fn range(att: Att, src: &[u8], out: &mut [u8], at: usize, pos: usize) -> Shown {
+fn range(att: Att, src: &[u8], out: &mut [u8], at: usize, pos: usize) -> Shown
+    ensures { λ r. ⌜ r ≡ shownAs (ranges .texts) (stepIn ranges att (now (src .entry)) pos) (now (src .entry)) at pos (now (out .entry)) ⌝ }
+    ensures { λ _. ⌜ now (out .exit) ≡ lineAs (ranges .texts) (stepIn ranges att (now (src .entry)) pos) (now (src .entry)) at (now (out .entry)) ⌝ }
+{
     match att_items::find_by_type_value_next(att, src, pos) {
         HandlePair::Item { handle, end, next } => {
             let at = console::word(out, at, b" item=", handle);
@@ -37,7 +42,10 @@ fn range(att: Att, src: &[u8], out: &mut [u8], at: usize, pos: usize) -> Shown {
 }
 
 // An item of Find Information Response.
-fn information(att: Att, src: &[u8], out: &mut [u8], at: usize, pos: usize) -> Shown {
+fn information(att: Att, src: &[u8], out: &mut [u8], at: usize, pos: usize) -> Shown
+    ensures { λ r. ⌜ r ≡ shownAs (informations .texts) (stepIn informations att (now (src .entry)) pos) (now (src .entry)) at pos (now (out .entry)) ⌝ }
+    ensures { λ _. ⌜ now (out .exit) ≡ lineAs (informations .texts) (stepIn informations att (now (src .entry)) pos) (now (src .entry)) at (now (out .entry)) ⌝ }
+{
     let item = att_items::find_information_next(att, src, pos);
     let answer = item.answer;
     let uuid = item.uuid;
@@ -60,11 +68,19 @@ fn information(att: Att, src: &[u8], out: &mut [u8], at: usize, pos: usize) -> S
 }
 
 // An item of Read By Type Response or Read By Group Type Response.
-fn value(att: Att, src: &[u8], out: &mut [u8], at: usize, pos: usize) -> Shown {
+fn value(att: Att, src: &[u8], out: &mut [u8], at: usize, pos: usize) -> Shown
+    ensures { λ r. ⌜ r ≡ shownAs (values .texts) (stepIn values att (now (src .entry)) pos) (now (src .entry)) at pos (now (out .entry)) ⌝ }
+    ensures { λ _. ⌜ now (out .exit) ≡ lineAs (values .texts) (stepIn values att (now (src .entry)) pos) (now (src .entry)) at (now (out .entry)) ⌝ }
+{
     match att_items::read_by_type_next(att, src, pos) {
-        HandleValue::Item { handle, rest, next } => {
+        HandleValue::Item {
+            handle,
+            rest: _,
+            next,
+        } => {
+            let rest = att_items::read_by_type_rest(att, src, pos);
             let at = console::word(out, at, b" item=", handle);
-            let at = console::hex(out, at, b":", att_decode::data(src, rest));
+            let at = console::hex(out, at, b":", rest);
             Shown {
                 at,
                 next,
@@ -80,7 +96,10 @@ fn value(att: Att, src: &[u8], out: &mut [u8], at: usize, pos: usize) -> Shown {
 }
 
 // An item of the response with this opcode.
-fn item(op: u8, att: Att, src: &[u8], out: &mut [u8], at: usize, pos: usize) -> Shown {
+fn item(op: u8, att: Att, src: &[u8], out: &mut [u8], at: usize, pos: usize) -> Shown
+    ensures { λ r. ⌜ r ≡ shownAs ((kindOf op) .texts) (stepIn (kindOf op) att (now (src .entry)) pos) (now (src .entry)) at pos (now (out .entry)) ⌝ }
+    ensures { λ _. ⌜ now (out .exit) ≡ lineAs ((kindOf op) .texts) (stepIn (kindOf op) att (now (src .entry)) pos) (now (src .entry)) at (now (out .entry)) ⌝ }
+{
     match op {
         0x05 => information(att, src, out, at, pos),
         0x07 => range(att, src, out, at, pos),
@@ -89,7 +108,10 @@ fn item(op: u8, att: Att, src: &[u8], out: &mut [u8], at: usize, pos: usize) -> 
 }
 
 // All items. A packet has fewer items than bytes.
-pub fn items(op: u8, att: Att, src: &[u8], out: &mut [u8], start: usize) -> usize {
+pub fn items(op: u8, att: Att, src: &[u8], out: &mut [u8], start: usize) -> usize
+    ensures { λ r. ⌜ r ≡ behind (itemsTexts op att (now (src .entry))) start (now (out .entry)) ⌝ }
+    ensures { λ _. ⌜ now (out .exit) ≡ holding (itemsTexts op att (now (src .entry))) start (now (out .entry)) ⌝ }
+{
     let mut at = start;
     let mut pos = 0;
     let mut left = src.len();

@@ -4,6 +4,7 @@ use answers::Answer;
 use answers::Link;
 use answers::Served;
 use attributes::Outcome;
+use attributes::Table;
 use codec::Refusal;
 use console::Input;
 use lines::Seen;
@@ -43,14 +44,30 @@ fn refuse(r: Refusal) {
 
 fn complain(till: Till, fault: Fault, number: u64) -> Till {
     match fault {
-        Fault::NotHex => console::complain(number, b"not hexadecimal"),
-        Fault::UnknownCommand => console::complain(number, b"unknown command"),
-        Fault::MissingWord => console::complain(number, b"missing word"),
-        Fault::TooManyWords => console::complain(number, b"too many words"),
-        Fault::NotNumber => console::complain(number, b"not a number"),
-        Fault::NotType => console::complain(number, b"not a type"),
-        Fault::NotMarks => console::complain(number, b"not marks"),
-        Fault::TooLong => console::complain(number, b"too long"),
+        Fault::NotHex => {
+            console::complain(number, b"not hexadecimal");
+        }
+        Fault::UnknownCommand => {
+            console::complain(number, b"unknown command");
+        }
+        Fault::MissingWord => {
+            console::complain(number, b"missing word");
+        }
+        Fault::TooManyWords => {
+            console::complain(number, b"too many words");
+        }
+        Fault::NotNumber => {
+            console::complain(number, b"not a number");
+        }
+        Fault::NotType => {
+            console::complain(number, b"not a type");
+        }
+        Fault::NotMarks => {
+            console::complain(number, b"not marks");
+        }
+        Fault::TooLong => {
+            console::complain(number, b"too long");
+        }
     }
     till
 }
@@ -80,10 +97,51 @@ fn lookup<'a>(till: Till, handle: u16, fixed: &'a [u8], live: &'a [u8]) -> Till 
     till
 }
 
+fn show_link(link: Link) {
+    let mut out = [0u8; 64];
+    let at = till_show::link_line(link, &mut out);
+    console::write_line(&mut out, at);
+}
+
+// The record with the number i, with its value as the till's own lookup has it.
+fn show_record<'a>(table: Table, i: usize, fixed: &'a [u8], live: &'a [u8]) {
+    let mut out = [0u8; 2048];
+    if 64 <= i {
+        return;
+    }
+    let r = table.records[i];
+    let value = table::lookup(table, r.handle, fixed, live);
+    let at = till_show::record_line(r, value, &mut out);
+    console::write_line(&mut out, at);
+}
+
+fn show_records<'a>(table: Table, fixed: &'a [u8], live: &'a [u8]) {
+    let mut i = 0;
+    while i < table.count {
+        show_record(table, i, fixed, live);
+        i += 1;
+    }
+}
+
+// All live bytes: up to 40,000 of them, two digits each.
+fn show_live(live: &[u8]) {
+    let mut out = [0u8; 80016];
+    let at = console::hex(&mut out, 0, b"live ", live);
+    console::write_line(&mut out, at);
+}
+
+// The state, with the bytes of the areas that are in use.
 fn show<'a>(till: Till, fixed: &'a [u8], live: &'a [u8]) -> Till {
     let table = till.table;
     let link = till.link;
-    till_show::show(table, link, fixed, live);
+    show_link(link);
+    if table::sound(table, fixed, live) {
+        show_records(table, fixed, live);
+        show_live(live);
+    } else {
+        refuse(Refusal::BadTable);
+    }
+    say(b"end");
     till
 }
 

@@ -1,10 +1,8 @@
 // The lines of `show`. A line is built at positions of a lent buffer: each function answers the position
-// behind what it wrote. Those that write to standard output answer nothing and change nothing.
+// behind what it wrote.
 use answers::Link;
 use attributes::Place;
 use attributes::Record;
-use attributes::Table;
-use codec::Refusal;
 ghost use mathlib.Core.Path.{_≡_};
 ghost use mathlib.Core.Bool.{false};
 ghost use mathlib.Core.List.{[], _∷_};
@@ -45,7 +43,7 @@ fn marks(out: &mut [u8], pos: usize, a: bool, first: &[u8], b: bool, second: &[u
 }
 
 // `link mtu=N marks=MARKS`
-fn link_line(link: Link, out: &mut [u8]) -> usize
+pub fn link_line(link: Link, out: &mut [u8]) -> usize
     ensures { λ r. ⌜ r ≡ behind (linkTexts link) 0 (now (out .entry)) ⌝ }
     ensures { λ _. ⌜ now (out .exit) ≡ holding (linkTexts link) 0 (now (out .entry)) ⌝ }
 {
@@ -98,7 +96,7 @@ fn place_text(place: Place, out: &mut [u8], pos: usize) -> usize
 }
 
 // A record with its value.
-fn record_line(r: Record, value: &[u8], out: &mut [u8]) -> usize
+pub fn record_line(r: Record, value: &[u8], out: &mut [u8]) -> usize
     ensures { λ n. ⌜ n ≡ behind (recordTexts r (now (value .entry))) 0 (now (out .entry)) ⌝ }
     ensures { λ _. ⌜ now (out .exit) ≡ holding (recordTexts r (now (value .entry))) 0 (now (out .entry)) ⌝ }
 {
@@ -107,57 +105,4 @@ fn record_line(r: Record, value: &[u8], out: &mut [u8]) -> usize
     let at = record_marks(r, out, at);
     let at = place_text(place, out, at);
     console::hex(out, at, b" value=", value)
-}
-
-fn show_link(link: Link) {
-    let mut out = [0u8; 64];
-    let at = link_line(link, &mut out);
-    console::write_line(&mut out, at);
-}
-
-// The record with the number i, with its value as the till's own lookup has it.
-fn show_record<'a>(table: Table, i: usize, fixed: &'a [u8], live: &'a [u8]) {
-    let mut out = [0u8; 2048];
-    if 64 <= i {
-        return;
-    }
-    let r = table.records[i];
-    let value = table::lookup(table, r.handle, fixed, live);
-    let at = record_line(r, value, &mut out);
-    console::write_line(&mut out, at);
-}
-
-fn show_records<'a>(table: Table, fixed: &'a [u8], live: &'a [u8]) {
-    let mut i = 0;
-    while i < table.count {
-        show_record(table, i, fixed, live);
-        i += 1;
-    }
-}
-
-// All live bytes: up to 40,000 of them, two digits each.
-fn show_live(live: &[u8]) {
-    let mut out = [0u8; 80016];
-    let at = console::hex(&mut out, 0, b"live ", live);
-    console::write_line(&mut out, at);
-}
-
-fn show_unsound() {
-    let mut out = [0u8; 64];
-    let at = console::refused(Refusal::BadTable, &mut out, 0);
-    console::write_line(&mut out, at);
-}
-
-// The state, with the bytes of the areas that are in use.
-pub fn show<'a>(table: Table, link: Link, fixed: &'a [u8], live: &'a [u8]) {
-    let mut out = [0u8; 8];
-    show_link(link);
-    if table::sound(table, fixed, live) {
-        show_records(table, fixed, live);
-        show_live(live);
-    } else {
-        show_unsound();
-    }
-    let at = print::text(&mut out, 0, b"end");
-    console::write_line(&mut out, at);
 }

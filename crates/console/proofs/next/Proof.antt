@@ -1,7 +1,8 @@
 -- Each turn keeps the lengths of the two buffers, and the number of turns falls.
-use mathlib.Core.Path.{_≡_, refl}
+use mathlib.Core.Path.{_≡_, refl, sym, _∙_}
 use lib.ListN.{length}
 use native.Mathlib.Omega.{arith}
+use Rattle.console.specs.ConsoleLaws.{flipped}
 use Rattle.console.proofs.next.Statement.{statement}
 use Rattle.console.proofs.next.Tie as tie
 
@@ -27,7 +28,7 @@ same-length-2 : tie.Need-same-length-2 Inv-loop μ-loop
 same-length-2 c = omega arith
 
 returns : tie.Need-returns Inv-loop μ-loop
-returns c = tt
+returns c = (sym (c .before .amid .ensures) ∙ flipped _ (c .if1 .taken), (omega arith, omega arith))
 
 sub-turns : tie.Need-sub-turns Inv-loop μ-loop
 sub-turns c = omega arith
@@ -48,7 +49,7 @@ same-length-4 : tie.Need-same-length-4 Inv-loop μ-loop
 same-length-4 c = omega arith
 
 returns-2 : tie.Need-returns-2 Inv-loop μ-loop
-returns-2 c = tt
+returns-2 c = (rw (c .unfinished .ensures .0, c .unfinished .ensures .1), (omega arith, omega arith))
 
 pub next-spec : {M : Type 1} → statement M
 next-spec =

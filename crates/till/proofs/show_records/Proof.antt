@@ -1,8 +1,8 @@
 -- The records are passed in order.
 use Prim.Native.Nat.{_≤_, _-_}
 use native.Mathlib.Omega.{arith}
-use Rattle.till_show.proofs.show_records.Statement.{statement}
-use Rattle.till_show.proofs.show_records.Tie as tie
+use Rattle.till.proofs.show_records.Statement.{statement}
+use Rattle.till.proofs.show_records.Tie as tie
 
 abbrev Inv-loop : tie.InvT-loop
 Inv-loop table fixed live i₀ i = i ≤ table .count
