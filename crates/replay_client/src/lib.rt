@@ -6,6 +6,8 @@ use att::AttClient;
 use att::AttCmd;
 use att::AttReq;
 use uuid::Uuid;
+ghost use mathlib.Core.Path.{_≡_};
+ghost use lib.ListN.{length};
 
 // A text and a number of two bytes, a comma and another.
 fn two(out: &mut [u8], pos: usize, name: &[u8], v: u16, w: u16) -> usize {
@@ -86,7 +88,10 @@ fn command(c: AttCmd, src: &[u8], out: &mut [u8]) -> usize {
     replay_place::place(out, at, b" ", src, data)
 }
 
-pub fn client(c: AttClient, u: Uuid, src: &[u8], out: &mut [u8]) -> usize {
+pub fn client(c: AttClient, u: Uuid, src: &[u8], out: &mut [u8]) -> usize
+    // The line keeps its length; its words are compared with the Rust, and not proved.
+    ensures { λ _. ⌜ length (now (out .exit)) ≡ length (now (out .entry)) ⌝ }
+{
     match c {
         AttClient::Request(r) => request(r, u, src, out),
         AttClient::Command(m) => command(m, src, out),

@@ -7,6 +7,8 @@ use att_items::HandlePair;
 use att_items::HandleUuid;
 use att_items::HandleValue;
 use uuid::Uuid;
+ghost use mathlib.Core.Path.{_≡_};
+ghost use lib.ListN.{length};
 
 // What an item was written as: the position behind it on the line, and the position of the next item;
 // or that there is none.
@@ -17,7 +19,10 @@ struct Shown {
 }
 
 // A text and `at..end`, the place of a data field.
-pub fn place(out: &mut [u8], pos: usize, name: &[u8], src: &[u8], d: Span) -> usize {
+pub fn place(out: &mut [u8], pos: usize, name: &[u8], src: &[u8], d: Span) -> usize
+    // The line keeps its length; its words are compared with the Rust, and not proved.
+    ensures { λ _. ⌜ length (now (out .exit)) ≡ length (now (out .entry)) ⌝ }
+{
     let start = d.at as u64;
     let n = att_decode::data(src, d).len() as u64;
     let at = console::count(out, pos, name, start);
@@ -127,7 +132,10 @@ fn walk(op: u8, att: Att, src: &[u8], out: &mut [u8], start: usize) -> usize {
 }
 
 // The items of the response with this opcode.
-pub fn items(op: u8, att: Att, src: &[u8], out: &mut [u8], start: usize) -> usize {
+pub fn items(op: u8, att: Att, src: &[u8], out: &mut [u8], start: usize) -> usize
+    // The line keeps its length; its words are compared with the Rust, and not proved.
+    ensures { λ _. ⌜ length (now (out .exit)) ≡ length (now (out .entry)) ⌝ }
+{
     let at = print::text(out, start, b" [");
     let at = walk(op, att, src, out, at);
     print::text(out, at, b"]")

@@ -5,6 +5,8 @@ use att::Att;
 use att::AttRsp;
 use att::AttServer;
 use att::AttUns;
+ghost use mathlib.Core.Path.{_≡_};
+ghost use lib.ListN.{length};
 
 // The numbers of Error, and no part.
 fn error(out: &mut [u8], pos: usize, request: u8, handle: u16, code: u8) -> usize {
@@ -62,7 +64,10 @@ fn unsolicited(u: AttUns, src: &[u8], out: &mut [u8]) -> usize {
     }
 }
 
-pub fn server(s: AttServer, att: Att, src: &[u8], out: &mut [u8]) -> usize {
+pub fn server(s: AttServer, att: Att, src: &[u8], out: &mut [u8]) -> usize
+    // The line keeps its length; its words are compared with the Rust, and not proved.
+    ensures { λ _. ⌜ length (now (out .exit)) ≡ length (now (out .entry)) ⌝ }
+{
     match s {
         AttServer::Response(r) => response(r, att, src, out),
         AttServer::Unsolicited(u) => unsolicited(u, src, out),

@@ -9,6 +9,8 @@ use uuid::Answer;
 use uuid::Form;
 use uuid::Raw;
 use uuid::Uuid;
+ghost use mathlib.Core.Path.{_≡_};
+ghost use lib.ListN.{length};
 
 // One room of a text, over bytes v: refused with nothing written, or written whole.
 fn refused_in(code: u8, out: &mut [u8], v: u8) -> bool {
@@ -82,7 +84,10 @@ fn text_reply(code: u8, full: &[u8], out: &mut [u8]) -> usize {
     print::text(out, at, full)
 }
 
-pub fn text(line: &[u8], out: &mut [u8]) -> usize {
+pub fn text(line: &[u8], out: &mut [u8]) -> usize
+    // The line keeps its length; its words are compared with the Rust, and not proved.
+    ensures { λ _. ⌜ length (now (out .exit)) ≡ length (now (out .entry)) ⌝ }
+{
     let mut spelt = [0u8; 256];
     let b = replay_base::little(lines::word(line, 2));
     let code = b[0];
@@ -114,7 +119,10 @@ fn double_reply(src: &[u8], out: &mut [u8]) -> usize {
 }
 
 // D LETTER HEX
-pub fn decoded(line: &[u8], out: &mut [u8]) -> usize {
+pub fn decoded(line: &[u8], out: &mut [u8]) -> usize
+    // The line keeps its length; its words are compared with the Rust, and not proved.
+    ensures { λ _. ⌜ length (now (out .exit)) ≡ length (now (out .entry)) ⌝ }
+{
     let mut buf = [0u8; 64];
     let n = replay_base::bytes(lines::word(line, 3), &mut buf);
     let src = console::first(&buf, n);
@@ -147,7 +155,10 @@ fn encoded_in(letter: u8, b: [u8; 4], dest: &mut [u8], out: &mut [u8]) -> usize 
 }
 
 // E LETTER-NUMBER HEX
-pub fn encoded(line: &[u8], out: &mut [u8]) -> usize {
+pub fn encoded(line: &[u8], out: &mut [u8]) -> usize
+    // The line keeps its length; its words are compared with the Rust, and not proved.
+    ensures { λ _. ⌜ length (now (out .exit)) ≡ length (now (out .entry)) ⌝ }
+{
     let mut buf = [0u8; 64];
     let n = replay_base::bytes(lines::word(line, 3), &mut buf);
     let word = lines::word(line, 2);
@@ -190,7 +201,10 @@ fn uuid_reply(u: Uuid, out: &mut [u8]) -> usize {
 }
 
 // U HEX
-pub fn uuid(line: &[u8], out: &mut [u8]) -> usize {
+pub fn uuid(line: &[u8], out: &mut [u8]) -> usize
+    // The line keeps its length; its words are compared with the Rust, and not proved.
+    ensures { λ _. ⌜ length (now (out .exit)) ≡ length (now (out .entry)) ⌝ }
+{
     let mut buf = [0u8; 64];
     let n = replay_base::bytes(lines::word(line, 2), &mut buf);
     let s = uuid::from_slice(console::first(&buf, n));
@@ -203,7 +217,10 @@ pub fn uuid(line: &[u8], out: &mut [u8]) -> usize {
 }
 
 // V HEX HEX
-pub fn same(line: &[u8], out: &mut [u8]) -> usize {
+pub fn same(line: &[u8], out: &mut [u8]) -> usize
+    // The line keeps its length; its words are compared with the Rust, and not proved.
+    ensures { λ _. ⌜ length (now (out .exit)) ≡ length (now (out .entry)) ⌝ }
+{
     let mut buf = [0u8; 64];
     let n = replay_base::bytes(lines::word(line, 2), &mut buf);
     let a = uuid::from_slice(console::first(&buf, n));
