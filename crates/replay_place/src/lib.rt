@@ -9,6 +9,8 @@ use att_items::HandleValue;
 use uuid::Uuid;
 ghost use mathlib.Core.Path.{_≡_};
 ghost use lib.ListN.{length};
+ghost use Rattle.console.specs.Console.{behind, holding};
+ghost use Rattle.replay_place.specs.Places.{placeTexts};
 
 // What an item was written as: the position behind it on the line, and the position of the next item;
 // or that there is none.
@@ -20,8 +22,8 @@ struct Shown {
 
 // A text and `at..end`, the place of a data field.
 pub fn place(out: &mut [u8], pos: usize, name: &[u8], src: &[u8], d: Span) -> usize
-    // The line keeps its length; its words are compared with the Rust, and not proved.
-    ensures { λ _. ⌜ length (now (out .exit)) ≡ length (now (out .entry)) ⌝ }
+    ensures { λ r. ⌜ r ≡ behind (placeTexts (now (name .entry)) d (now (src .entry))) pos (now (out .entry)) ⌝ }
+    ensures { λ _. ⌜ now (out .exit) ≡ holding (placeTexts (now (name .entry)) d (now (src .entry))) pos (now (out .entry)) ⌝ }
 {
     let start = d.at as u64;
     let n = att_decode::data(src, d).len() as u64;
