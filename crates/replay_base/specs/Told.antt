@@ -22,12 +22,12 @@ pub one : (t : List ℕ) (pos : ℕ) (out : List ℕ) (r : ℕ) (w : List ℕ) �
 unfolding behind holding
 one t pos out r w p = p
 
-behind-append : (xs ys : List (List ℕ)) (pos : ℕ) (out : List ℕ) → behind (xs ++ ys) pos out ≡ behind ys (behind xs pos out) (holding xs pos out)
+pub behind-append : (xs ys : List (List ℕ)) (pos : ℕ) (out : List ℕ) → behind (xs ++ ys) pos out ≡ behind ys (behind xs pos out) (holding xs pos out)
 unfolding behind holding
 behind-append [] ys pos out = refl
 behind-append (x ∷ xs) ys pos out = behind-append xs ys (placed pos x out) (laidAt pos x out)
 
-holding-append : (xs ys : List (List ℕ)) (pos : ℕ) (out : List ℕ) → holding (xs ++ ys) pos out ≡ holding ys (behind xs pos out) (holding xs pos out)
+pub holding-append : (xs ys : List (List ℕ)) (pos : ℕ) (out : List ℕ) → holding (xs ++ ys) pos out ≡ holding ys (behind xs pos out) (holding xs pos out)
 unfolding behind holding
 holding-append [] ys pos out = refl
 holding-append (x ∷ xs) ys pos out = holding-append xs ys (placed pos x out) (laidAt pos x out)
