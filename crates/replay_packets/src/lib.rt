@@ -10,6 +10,8 @@ use codec::Error;
 use codec::Written;
 use hex::Handle;
 use uuid::Uuid;
+ghost use mathlib.Core.Path.{_≡_};
+ghost use lib.ListN.{length};
 
 // One room of an encoding, over bytes v: refused with this number and nothing written, or written whole.
 fn refused_in(att: Att, u: Uuid, src: &[u8], number: u8, out: &mut [u8], v: u8) -> bool {
@@ -138,7 +140,10 @@ fn decoded(src: &[u8], out: &mut [u8]) -> usize {
 }
 
 // P HEX
-pub fn packet(line: &[u8], out: &mut [u8]) -> usize {
+pub fn packet(line: &[u8], out: &mut [u8]) -> usize
+    // The line keeps its length; its words are compared with the Rust, and not proved.
+    ensures { λ _. ⌜ length (now (out .exit)) ≡ length (now (out .entry)) ⌝ }
+{
     let mut buf = [0u8; 1024];
     let n = replay_base::bytes(lines::word(line, 2), &mut buf);
     decoded(console::first(&buf, n), out)
@@ -179,7 +184,10 @@ fn typed_reply(att: Att, u: Uuid, out: &mut [u8]) -> usize {
 }
 
 // Y OP START END HEX
-pub fn typed(line: &[u8], out: &mut [u8]) -> usize {
+pub fn typed(line: &[u8], out: &mut [u8]) -> usize
+    // The line keeps its length; its words are compared with the Rust, and not proved.
+    ensures { λ _. ⌜ length (now (out .exit)) ≡ length (now (out .entry)) ⌝ }
+{
     let mut buf = [0u8; 64];
     let op = replay_base::little(lines::word(line, 2));
     let start = handle(lines::word(line, 3));

@@ -7,6 +7,8 @@ use cursor::Part;
 use cursor::ReadU8;
 use cursor::ReadU16;
 use cursor::ReadU32;
+ghost use mathlib.Core.Path.{_≡_};
+ghost use lib.ListN.{length};
 
 // Where the cursor stands after a step, and the position behind the step's answer on the line.
 struct Stood {
@@ -103,7 +105,10 @@ fn walk(line: &[u8], data: &[u8], out: &mut [u8]) -> usize {
 }
 
 // R HEX STEP..
-pub fn read(line: &[u8], out: &mut [u8]) -> usize {
+pub fn read(line: &[u8], out: &mut [u8]) -> usize
+    // The line keeps its length; its words are compared with the Rust, and not proved.
+    ensures { λ _. ⌜ length (now (out .exit)) ≡ length (now (out .entry)) ⌝ }
+{
     let mut buf = [0u8; 64];
     let n = replay_base::bytes(lines::word(line, 2), &mut buf);
     walk(line, console::first(&buf, n), out)

@@ -1,21 +1,28 @@
-// The replies on packets that servers send: NAME, NUMBERS and PART.
-//
-// Proved safe and ending; that a reply is right is shown by oracle/ and by the stored run of replay.
+// The replies on packets that servers send: NAME, NUMBERS and PART. Their texts are in specs/; that they
+// are the Rust's is shown by oracle/ and by the stored run of replay.
 use att::Att;
 use att::AttRsp;
 use att::AttServer;
 use att::AttUns;
+ghost use mathlib.Core.Path.{_≡_};
+ghost use Rattle.console.specs.Console.{behind, holding};
+ghost use Rattle.replay_server.specs.Servers.{errorTexts, responseTexts, unsolicitedTexts, serverTexts};
 
 // The numbers of Error, and no part.
-fn error(out: &mut [u8], pos: usize, request: u8, handle: u16, code: u8) -> usize {
+fn error(out: &mut [u8], pos: usize, request: u8, handle: u16, code: u8) -> usize
+    ensures { λ r. ⌜ r ≡ behind (errorTexts request handle code) pos (now (out .entry)) ⌝ }
+    ensures { λ _. ⌜ now (out .exit) ≡ holding (errorTexts request handle code) pos (now (out .entry)) ⌝ }
+{
     let at = console::byte(out, pos, b"Error ", request);
     let at = console::word(out, at, b",", handle);
     let at = console::byte(out, at, b",", code);
     print::text(out, at, b" -")
 }
 
-fn response(r: AttRsp, att: Att, src: &[u8], out: &mut [u8]) -> usize {
-    let at = print::text(out, 0, b"0 server.response.");
+fn response(r: AttRsp, att: Att, src: &[u8], out: &mut [u8], at: usize) -> usize
+    ensures { λ n. ⌜ n ≡ behind (responseTexts r att (now (src .entry))) at (now (out .entry)) ⌝ }
+    ensures { λ _. ⌜ now (out .exit) ≡ holding (responseTexts r att (now (src .entry))) at (now (out .entry)) ⌝ }
+{
     match r {
         AttRsp::ExchangeMtu { mtu } => {
             let at = console::word(out, at, b"ExchangeMtu ", mtu);
@@ -48,8 +55,10 @@ fn response(r: AttRsp, att: Att, src: &[u8], out: &mut [u8]) -> usize {
     }
 }
 
-fn unsolicited(u: AttUns, src: &[u8], out: &mut [u8]) -> usize {
-    let at = print::text(out, 0, b"0 server.unsolicited.");
+fn unsolicited(u: AttUns, src: &[u8], out: &mut [u8], at: usize) -> usize
+    ensures { λ n. ⌜ n ≡ behind (unsolicitedTexts u (now (src .entry))) at (now (out .entry)) ⌝ }
+    ensures { λ _. ⌜ now (out .exit) ≡ holding (unsolicitedTexts u (now (src .entry))) at (now (out .entry)) ⌝ }
+{
     match u {
         AttUns::Notify { handle, data } => {
             let at = console::word(out, at, b"Notify ", handle);
@@ -62,9 +71,19 @@ fn unsolicited(u: AttUns, src: &[u8], out: &mut [u8]) -> usize {
     }
 }
 
-pub fn server(s: AttServer, att: Att, src: &[u8], out: &mut [u8]) -> usize {
+// What a server sends: the packet's name, its numbers and its part or its items.
+pub fn server(s: AttServer, att: Att, src: &[u8], out: &mut [u8]) -> usize
+    ensures { λ r. ⌜ r ≡ behind (serverTexts s att (now (src .entry))) 0 (now (out .entry)) ⌝ }
+    ensures { λ _. ⌜ now (out .exit) ≡ holding (serverTexts s att (now (src .entry))) 0 (now (out .entry)) ⌝ }
+{
     match s {
-        AttServer::Response(r) => response(r, att, src, out),
-        AttServer::Unsolicited(u) => unsolicited(u, src, out),
+        AttServer::Response(r) => {
+            let at = print::text(out, 0, b"0 server.response.");
+            response(r, att, src, out, at)
+        }
+        AttServer::Unsolicited(u) => {
+            let at = print::text(out, 0, b"0 server.unsolicited.");
+            unsolicited(u, src, out, at)
+        }
     }
 }

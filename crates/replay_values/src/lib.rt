@@ -9,6 +9,17 @@ use uuid::Answer;
 use uuid::Form;
 use uuid::Raw;
 use uuid::Uuid;
+ghost use mathlib.Core.Path.{_≡_};
+ghost use mathlib.Core.List.{[], _∷_};
+ghost use lib.ListN.{length};
+ghost use Rattle.codec.specs.Ascii.{ascii};
+ghost use Rattle.console.specs.Console.{behind, holding};
+ghost use Rattle.lines.specs.Words.{wordOf};
+ghost use Rattle.primitives.specs.Numbers.{numberAt};
+ghost use Rattle.print.specs.Print.{hexText, decimalText};
+ghost use Rattle.uuid.specs.Uuids.{shortOf, sliced, uuidOf};
+ghost use Rattle.replay_values.specs.Values.{said, byteTexts, wordTexts, doubleTexts, decodedTexts};
+ghost use Rattle.replay_values.specs.Values.{bitsOf, shortSaid, uuidTexts, uuidSaid, sameText};
 
 // One room of a text, over bytes v: refused with nothing written, or written whole.
 fn refused_in(code: u8, out: &mut [u8], v: u8) -> bool {
@@ -82,7 +93,10 @@ fn text_reply(code: u8, full: &[u8], out: &mut [u8]) -> usize {
     print::text(out, at, full)
 }
 
-pub fn text(line: &[u8], out: &mut [u8]) -> usize {
+pub fn text(line: &[u8], out: &mut [u8]) -> usize
+    // The line keeps its length; its words are compared with the Rust, and not proved.
+    ensures { λ _. ⌜ length (now (out .exit)) ≡ length (now (out .entry)) ⌝ }
+{
     let mut spelt = [0u8; 256];
     let b = replay_base::little(lines::word(line, 2));
     let code = b[0];
@@ -92,21 +106,30 @@ pub fn text(line: &[u8], out: &mut [u8]) -> usize {
     }
 }
 
-fn byte_reply(src: &[u8], out: &mut [u8]) -> usize {
+fn byte_reply(src: &[u8], out: &mut [u8]) -> usize
+    ensures { λ r. ⌜ r ≡ behind (byteTexts (now (src .entry))) 0 (now (out .entry)) ⌝ }
+    ensures { λ _. ⌜ now (out .exit) ≡ holding (byteTexts (now (src .entry))) 0 (now (out .entry)) ⌝ }
+{
     match primitives::read_u8(src) {
         ReadU8::Value(v) => print::hex2(out, 0, v),
         ReadU8::Refused(e) => replay_base::refused(out, 0, b"", e),
     }
 }
 
-fn word_reply(src: &[u8], out: &mut [u8]) -> usize {
+fn word_reply(src: &[u8], out: &mut [u8]) -> usize
+    ensures { λ r. ⌜ r ≡ behind (wordTexts (now (src .entry))) 0 (now (out .entry)) ⌝ }
+    ensures { λ _. ⌜ now (out .exit) ≡ holding (wordTexts (now (src .entry))) 0 (now (out .entry)) ⌝ }
+{
     match primitives::read_u16(src) {
         ReadU16::Value(v) => print::hex4(out, 0, v),
         ReadU16::Refused(e) => replay_base::refused(out, 0, b"", e),
     }
 }
 
-fn double_reply(src: &[u8], out: &mut [u8]) -> usize {
+fn double_reply(src: &[u8], out: &mut [u8]) -> usize
+    ensures { λ r. ⌜ r ≡ behind (doubleTexts (now (src .entry))) 0 (now (out .entry)) ⌝ }
+    ensures { λ _. ⌜ now (out .exit) ≡ holding (doubleTexts (now (src .entry))) 0 (now (out .entry)) ⌝ }
+{
     match primitives::read_u32(src) {
         ReadU32::Value(v) => replay_base::double(out, 0, v),
         ReadU32::Refused(e) => replay_base::refused(out, 0, b"", e),
@@ -114,7 +137,10 @@ fn double_reply(src: &[u8], out: &mut [u8]) -> usize {
 }
 
 // D LETTER HEX
-pub fn decoded(line: &[u8], out: &mut [u8]) -> usize {
+pub fn decoded(line: &[u8], out: &mut [u8]) -> usize
+    ensures { λ r. ⌜ r ≡ behind (decodedTexts (numberAt 1 0 (wordOf 2 (now (line .entry)))) (said 64 (wordOf 3 (now (line .entry))))) 0 (now (out .entry)) ⌝ }
+    ensures { λ _. ⌜ now (out .exit) ≡ holding (decodedTexts (numberAt 1 0 (wordOf 2 (now (line .entry)))) (said 64 (wordOf 3 (now (line .entry))))) 0 (now (out .entry)) ⌝ }
+{
     let mut buf = [0u8; 64];
     let n = replay_base::bytes(lines::word(line, 3), &mut buf);
     let src = console::first(&buf, n);
@@ -147,7 +173,10 @@ fn encoded_in(letter: u8, b: [u8; 4], dest: &mut [u8], out: &mut [u8]) -> usize 
 }
 
 // E LETTER-NUMBER HEX
-pub fn encoded(line: &[u8], out: &mut [u8]) -> usize {
+pub fn encoded(line: &[u8], out: &mut [u8]) -> usize
+    // The line keeps its length; its words are compared with the Rust, and not proved.
+    ensures { λ _. ⌜ length (now (out .exit)) ≡ length (now (out .entry)) ⌝ }
+{
     let mut buf = [0u8; 64];
     let n = replay_base::bytes(lines::word(line, 3), &mut buf);
     let word = lines::word(line, 2);
@@ -159,20 +188,28 @@ pub fn encoded(line: &[u8], out: &mut [u8]) -> usize {
 }
 
 // All sixteen bytes, and how many of them count.
-fn raw(out: &mut [u8], pos: usize, r: Raw) -> usize {
+fn raw(out: &mut [u8], pos: usize, r: Raw) -> usize
+    ensures { λ n. ⌜ n ≡ behind (ascii " " ∷ hexText (r .bytes) ∷ ascii "/" ∷ decimalText (r .len) ∷ []) pos (now (out .entry)) ⌝ }
+    ensures { λ _. ⌜ now (out .exit) ≡ holding (ascii " " ∷ hexText (r .bytes) ∷ ascii "/" ∷ decimalText (r .len) ∷ []) pos (now (out .entry)) ⌝ }
+{
     let all = r.bytes;
     let at = console::hex(out, pos, b" ", &all);
     console::count(out, at, b"/", r.len as u64)
 }
 
-fn short(out: &mut [u8], pos: usize, u: Uuid) -> usize {
+fn short(out: &mut [u8], pos: usize, u: Uuid) -> usize
+    ensures { λ r. ⌜ r ≡ behind (shortSaid (shortOf u)) pos (now (out .entry)) ⌝ }
+    ensures { λ _. ⌜ now (out .exit) ≡ holding (shortSaid (shortOf u)) pos (now (out .entry)) ⌝ }
+{
     match uuid::as_short(u) {
         ReadU16::Value(v) => console::word(out, pos, b" ", v),
         ReadU16::Refused(e) => replay_base::refused(out, pos, b" ", e),
     }
 }
 
-fn bits(form: Form) -> u64 {
+fn bits(form: Form) -> u64
+    ensures { λ r. ⌜ r ≡ bitsOf form ⌝ }
+{
     match form {
         Form::Uuid16 => 16,
         Form::Uuid32 => 32,
@@ -180,7 +217,10 @@ fn bits(form: Form) -> u64 {
     }
 }
 
-fn uuid_reply(u: Uuid, out: &mut [u8]) -> usize {
+fn uuid_reply(u: Uuid, out: &mut [u8]) -> usize
+    ensures { λ r. ⌜ r ≡ behind (uuidTexts u) 0 (now (out .entry)) ⌝ }
+    ensures { λ _. ⌜ now (out .exit) ≡ holding (uuidTexts u) 0 (now (out .entry)) ⌝ }
+{
     let form = u.form;
     let at = print::decimal(out, 0, bits(form));
     let at = console::count(out, at, b" ", uuid::get_att_type(form) as u64);
@@ -190,7 +230,10 @@ fn uuid_reply(u: Uuid, out: &mut [u8]) -> usize {
 }
 
 // U HEX
-pub fn uuid(line: &[u8], out: &mut [u8]) -> usize {
+pub fn uuid(line: &[u8], out: &mut [u8]) -> usize
+    ensures { λ r. ⌜ r ≡ behind (uuidSaid (sliced (said 64 (wordOf 2 (now (line .entry)))) .answer) (sliced (said 64 (wordOf 2 (now (line .entry)))) .uuid)) 0 (now (out .entry)) ⌝ }
+    ensures { λ _. ⌜ now (out .exit) ≡ holding (uuidSaid (sliced (said 64 (wordOf 2 (now (line .entry)))) .answer) (sliced (said 64 (wordOf 2 (now (line .entry)))) .uuid)) 0 (now (out .entry)) ⌝ }
+{
     let mut buf = [0u8; 64];
     let n = replay_base::bytes(lines::word(line, 2), &mut buf);
     let s = uuid::from_slice(console::first(&buf, n));
@@ -203,12 +246,16 @@ pub fn uuid(line: &[u8], out: &mut [u8]) -> usize {
 }
 
 // V HEX HEX
-pub fn same(line: &[u8], out: &mut [u8]) -> usize {
+pub fn same(line: &[u8], out: &mut [u8]) -> usize
+    ensures { λ r. ⌜ r ≡ behind (sameText (uuidOf (said 64 (wordOf 2 (now (line .entry))))) (uuidOf (said 64 (wordOf 3 (now (line .entry))))) ∷ []) 0 (now (out .entry)) ⌝ }
+    ensures { λ _. ⌜ now (out .exit) ≡ holding (sameText (uuidOf (said 64 (wordOf 2 (now (line .entry))))) (uuidOf (said 64 (wordOf 3 (now (line .entry))))) ∷ []) 0 (now (out .entry)) ⌝ }
+{
     let mut buf = [0u8; 64];
     let n = replay_base::bytes(lines::word(line, 2), &mut buf);
     let a = uuid::from_slice(console::first(&buf, n));
-    let m = replay_base::bytes(lines::word(line, 3), &mut buf);
-    let b = uuid::from_slice(console::first(&buf, m));
+    let mut other = [0u8; 64];
+    let m = replay_base::bytes(lines::word(line, 3), &mut other);
+    let b = uuid::from_slice(console::first(&other, m));
     let x = a.uuid;
     let y = b.uuid;
     if uuid::eq(x, y) {

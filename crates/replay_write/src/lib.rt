@@ -4,6 +4,8 @@
 use codec::Error;
 use cursor::Moved;
 use cursor::Part;
+ghost use mathlib.Core.Path.{_≡_};
+ghost use lib.ListN.{length};
 
 // Where the cursor stands after a step, and the position behind the step's answer on the line.
 struct Stood {
@@ -144,7 +146,10 @@ fn walked(line: &[u8], data: &mut [u8], out: &mut [u8]) -> usize {
 }
 
 // W HEX STEP..
-pub fn write_walk(line: &[u8], out: &mut [u8]) -> usize {
+pub fn write_walk(line: &[u8], out: &mut [u8]) -> usize
+    // The line keeps its length; its words are compared with the Rust, and not proved.
+    ensures { λ _. ⌜ length (now (out .exit)) ≡ length (now (out .entry)) ⌝ }
+{
     let mut buf = [0u8; 64];
     let n = replay_base::bytes(lines::word(line, 2), &mut buf);
     if 64 < n {

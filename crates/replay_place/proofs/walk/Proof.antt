@@ -1,18 +1,21 @@
--- Each turn keeps the line's length, and the number of items that may be left falls.
+-- `replay_place::walk` meets its contract: what is still to be written makes the whole line, and the number of items that may be left falls.
 use mathlib.Core.Path.{_≡_, refl}
 use lib.ListN.{length}
 use native.Mathlib.Omega.{arith}
+use Rattle.replay_place.specs.Items.{itemIn}
+use Rattle.replay_place.specs.ItemsLaws.{Writing, nothing-written, more-written, all-written, used-up, flipped, unflipped}
 use Rattle.replay_place.proofs.walk.Statement.{statement}
 use Rattle.replay_place.proofs.walk.Tie as tie
 
 abbrev Inv-loop : tie.InvT-loop
-Inv-loop op att src out₀ start at₀ pos₀ left₀ out at pos left = length out ≡ length out₀
+Inv-loop op att src out₀ start at₀ pos₀ left₀ out at pos left =
+    (length out ≡ length out₀) × Writing (itemIn op att src) start out₀ (length src) at out pos left
 
 abbrev μ-loop : tie.MeasureT-loop
 μ-loop op att src out₀ start at₀ pos₀ left₀ out at pos left = left
 
 loop-holds : tie.Need-loop-holds Inv-loop μ-loop
-loop-holds c = refl
+loop-holds c = (refl, nothing-written _ _ _ _)
 
 item-requires : tie.Need-item-requires Inv-loop μ-loop
 item-requires c κs = tt
@@ -21,7 +24,12 @@ same-length : tie.Need-same-length Inv-loop μ-loop
 same-length c = omega arith
 
 returns : tie.Need-returns Inv-loop μ-loop
-returns c = tt
+returns c =
+    let i = c .before .before .before .before in
+    let l = i .before .before .before in
+    let a = l .before .before .before .args in
+    all-written (itemIn (a .op) (a .att) (a .src .now)) (a .start) (a .out .now) _ (l .loop .at) (l .loop .out) (l .loop .pos) (l .loop .left) _ _ (l .loop .inv .1) (omega arith) (i .item .ensures)
+    (flipped _ (c .if1 .taken))
 
 sub-left : tie.Need-sub-left Inv-loop μ-loop
 sub-left c = omega arith
@@ -30,13 +38,23 @@ loop-less : tie.Need-loop-less Inv-loop μ-loop
 loop-less c = omega arith
 
 loop-again : tie.Need-loop-again Inv-loop μ-loop
-loop-again c = omega arith
+loop-again c =
+    let i = c .before .before .before .before in
+    let l = i .before .before .before in
+    let a = l .before .before .before .args in (
+      omega arith,
+      more-written (itemIn (a .op) (a .att) (a .src .now)) (a .start) (a .out .now) _ (l .loop .at) (l .loop .out) (l .loop .pos) (l .loop .left) _ _ (l .loop .inv .1) (omega arith) (i .item .ensures)
+          (unflipped _ (c .if1 .left)),
+    )
 
 same-length-2 : tie.Need-same-length-2 Inv-loop μ-loop
 same-length-2 c = omega arith
 
 returns-2 : tie.Need-returns-2 Inv-loop μ-loop
-returns-2 c = tt
+returns-2 c =
+    let l = c .before in
+    let a = l .before .before .before .args in
+    used-up (itemIn (a .op) (a .att) (a .src .now)) (a .start) (a .out .now) _ (l .loop .at) (l .loop .out) (l .loop .pos) (l .loop .left) (l .loop .inv .1) (omega arith)
 
 pub walk-spec : {M : Type 1} → statement M
 walk-spec =

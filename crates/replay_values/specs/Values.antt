@@ -1,0 +1,94 @@
+-- The texts of the replies on integers and UUIDs, one behind the other.
+use Prim.Native.Nat.{ℕ, _/_, _%_}
+use mathlib.Core.Bool.{Bool}
+use mathlib.Core.List.{List, [], _∷_, _++_}
+use lib.ListN.{length}
+use lib.Dec.{eqb, leb}
+use Rattle.codec.specs.Ascii.{ascii}
+use Rattle.codec.specs.Buffer.{laid, written}
+use Rattle.codec.specs.Cases.{pick}
+use Rattle.codec.specs.Refusals.{numberOf, refusalOf}
+use Rattle.codec.specs.declared.Error.{Error}
+use Rattle.codec.specs.declared.Error.the-variants.{InvalidValue}
+use Rattle.codec.specs.declared.Written.{Written}
+use Rattle.codec.specs.declared.Written.the-variants as writ
+use Rattle.hex.specs.Hex.{Meaning, none, some, hexMeans}
+use Rattle.primitives.specs.Numbers.{bytesOf, numberAt, reading}
+use Rattle.primitives.specs.declared.ReadU8.{ReadU8}
+use Rattle.primitives.specs.declared.ReadU8.the-variants as one
+use Rattle.primitives.specs.declared.ReadU16.{ReadU16}
+use Rattle.primitives.specs.declared.ReadU16.the-variants as two
+use Rattle.primitives.specs.declared.ReadU32.{ReadU32}
+use Rattle.primitives.specs.declared.ReadU32.the-variants as four
+use Rattle.print.specs.Print.{capitals, hexText, decimalText}
+use Rattle.uuid.specs.Uuids.{own, attType, attBytes, padded, shortOf, sliced, uuidOf, equal}
+use Rattle.uuid.specs.declared.Answer.{Answer}
+use Rattle.uuid.specs.declared.Answer.the-variants as answ
+use Rattle.uuid.specs.declared.Form.{Form}
+use Rattle.uuid.specs.declared.Form.the-variants.{Uuid16, Uuid32, Uuid128}
+use Rattle.uuid.specs.declared.Uuid.{Uuid}
+
+-- the bytes of a HEX; none where a word is no HEX or has more than `k` of them
+abbrev pub saidBy : ℕ → Meaning → List ℕ
+saidBy k none = []
+saidBy k (some bytes) = pick (leb (length bytes) k) bytes []
+
+abbrev pub said : ℕ → List ℕ → List ℕ
+said k word = saidBy k (hexMeans word)
+
+-- `!1` or `!2`, behind a text
+abbrev pub refusedTexts : List ℕ → Error → List (List ℕ)
+refusedTexts name e = name ∷ ascii "!" ∷ decimalText (numberOf (refusalOf e)) ∷ []
+
+-- D: an integer that was read, and of which width by its letter, `b`, `w` or any other
+abbrev pub byteSaid : ReadU8 → List (List ℕ)
+byteSaid (one.Value v) = capitals (v ∷ []) ∷ []
+byteSaid (one.Refused e) = refusedTexts [] e
+
+abbrev pub wordSaid : ReadU16 → List (List ℕ)
+wordSaid (two.Value v) = capitals (v / 256 ∷ v % 256 ∷ []) ∷ []
+wordSaid (two.Refused e) = refusedTexts [] e
+
+abbrev pub doubleSaid : ReadU32 → List (List ℕ)
+doubleSaid (four.Value v) = capitals (v / 65536 / 256 ∷ v / 65536 % 256 ∷ []) ∷ capitals (v % 65536 / 256 ∷ v % 65536 % 256 ∷ []) ∷ []
+doubleSaid (four.Refused e) = refusedTexts [] e
+
+abbrev pub byteTexts : List ℕ → List (List ℕ)
+byteTexts src = byteSaid (reading 1 one.Value (one.Refused InvalidValue) src)
+
+abbrev pub wordTexts : List ℕ → List (List ℕ)
+wordTexts src = wordSaid (reading 2 two.Value (two.Refused InvalidValue) src)
+
+abbrev pub doubleTexts : List ℕ → List (List ℕ)
+doubleTexts src = doubleSaid (reading 4 four.Value (four.Refused InvalidValue) src)
+
+abbrev pub decodedTexts : ℕ → List ℕ → List (List ℕ)
+decodedTexts letter src = pick (eqb letter 98) (byteTexts src) (pick (eqb letter 119) (wordTexts src) (doubleTexts src))
+
+-- U: form, format, the bytes under the format and the own bytes, each with how many count, and the short form
+abbrev pub bitsOf : Form → ℕ
+bitsOf Uuid16 = 16
+bitsOf Uuid32 = 32
+bitsOf Uuid128 = 128
+
+abbrev pub rawTexts : List ℕ → List (List ℕ)
+rawTexts l = ascii " " ∷ hexText (padded l) ∷ ascii "/" ∷ decimalText (length l) ∷ []
+
+abbrev pub shortSaid : ReadU16 → List (List ℕ)
+shortSaid (two.Value v) = ascii " " ∷ capitals (v / 256 ∷ v % 256 ∷ []) ∷ []
+shortSaid (two.Refused e) = refusedTexts (ascii " ") e
+
+abbrev pub uuidTexts : Uuid → List (List ℕ)
+uuidTexts u =
+    decimalText (bitsOf (u .form))
+    ∷ ascii " "
+    ∷ decimalText (attType (u .form))
+    ∷ (rawTexts (attBytes u) ++ (rawTexts (own u) ++ shortSaid (shortOf u)))
+
+abbrev pub uuidSaid : Answer → Uuid → List (List ℕ)
+uuidSaid answ.Accepted u = uuidTexts u
+uuidSaid (answ.Refused e) u = refusedTexts [] e
+
+-- V: whether two UUIDs are equal
+abbrev pub sameText : Uuid → Uuid → List ℕ
+sameText a b = pick (equal a b) (ascii "equal") (ascii "different")
