@@ -43,32 +43,9 @@ fn refuse(r: Refusal) {
 }
 
 fn complain(till: Till, fault: Fault, number: u64) -> Till {
-    match fault {
-        Fault::NotHex => {
-            console::complain(number, b"not hexadecimal");
-        }
-        Fault::UnknownCommand => {
-            console::complain(number, b"unknown command");
-        }
-        Fault::MissingWord => {
-            console::complain(number, b"missing word");
-        }
-        Fault::TooManyWords => {
-            console::complain(number, b"too many words");
-        }
-        Fault::NotNumber => {
-            console::complain(number, b"not a number");
-        }
-        Fault::NotType => {
-            console::complain(number, b"not a type");
-        }
-        Fault::NotMarks => {
-            console::complain(number, b"not marks");
-        }
-        Fault::TooLong => {
-            console::complain(number, b"too long");
-        }
-    }
+    let mut out = [0u8; 64];
+    let at = till_show::fault_line(fault, number, &mut out);
+    console::write_line(&mut out, at);
     till
 }
 

@@ -1,14 +1,17 @@
-// The lines of `show`. A line is built at positions of a lent buffer: each function answers the position
+// The lines of `show`, and those of what cannot be read. A line is built at positions of a lent buffer: each function answers the position
 // behind what it wrote.
 use answers::Link;
 use attributes::Place;
 use attributes::Record;
+use till_read::Fault;
 ghost use mathlib.Core.Path.{_≡_};
 ghost use mathlib.Core.Bool.{false};
 ghost use mathlib.Core.List.{[], _∷_};
 ghost use Rattle.codec.specs.Cases.{pick};
 ghost use Rattle.console.specs.Console.{behind, holding};
 ghost use Rattle.till_show.specs.Show.{linkTexts, headTexts, recordMarks, placeTexts, recordTexts};
+ghost use Rattle.till_show.specs.Faults.{faultText};
+ghost use Rattle.console.specs.Console.{complaintTexts};
 
 // A mark's letter where the mark is set, and nothing where it is not.
 fn letter(set: bool, name: &[u8]) -> &[u8]
@@ -105,4 +108,21 @@ pub fn record_line(r: Record, value: &[u8], out: &mut [u8]) -> usize
     let at = record_marks(r, out, at);
     let at = place_text(place, out, at);
     console::hex(out, at, b" value=", value)
+}
+
+// `error line K: WHAT`
+pub fn fault_line(fault: Fault, number: u64, out: &mut [u8]) -> usize
+    ensures { λ r. ⌜ r ≡ behind (complaintTexts number (faultText fault)) 0 (now (out .entry)) ⌝ }
+    ensures { λ _. ⌜ now (out .exit) ≡ holding (complaintTexts number (faultText fault)) 0 (now (out .entry)) ⌝ }
+{
+    match fault {
+        Fault::NotHex => console::complaint(out, 0, number, b"not hexadecimal"),
+        Fault::UnknownCommand => console::complaint(out, 0, number, b"unknown command"),
+        Fault::MissingWord => console::complaint(out, 0, number, b"missing word"),
+        Fault::TooManyWords => console::complaint(out, 0, number, b"too many words"),
+        Fault::NotNumber => console::complaint(out, 0, number, b"not a number"),
+        Fault::NotType => console::complaint(out, 0, number, b"not a type"),
+        Fault::NotMarks => console::complaint(out, 0, number, b"not marks"),
+        Fault::TooLong => console::complaint(out, 0, number, b"too long"),
+    }
 }
