@@ -1,8 +1,8 @@
 // What the requests of the comparison with the Rust share: the words of a request, and the test of a call
 // that writes into a lent buffer.
 //
-// The contracts here are those of any library; the crates above, which put replies together, are proved
-// safe and ending, and their replies are held to the Rust's by oracle/.
+// The contracts here are those of any library. The crates above put replies together: where specs/ has no
+// texts of a reply, it is proved safe and ending only, and all replies are held to the Rust's by oracle/.
 use codec::Error;
 use codec::Written;
 use hex::Hex;

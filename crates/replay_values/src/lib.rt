@@ -1,6 +1,7 @@
 // The replies on texts, integers and UUIDs: the requests T, D, E, U and V.
 //
-// Proved safe and ending; that a reply is right is shown by oracle/ and by the stored run of replay.
+// The texts are in specs/, but for T and E, of which the line's length alone is proved; that they are the
+// Rust's is shown by oracle/ and by the stored run of replay.
 use codec::Written;
 use primitives::ReadU8;
 use primitives::ReadU16;
