@@ -5,12 +5,12 @@ use mathlib.Core.Bool.{Bool, true, false}
 use mathlib.Core.List.{List, [], _∷_, _++_}
 use native.Mathlib.Omega.{arith}
 use native.Mathlib.Numerals.{add-one}
-use lib.ListN.{length, take, drop, getD, drop-of-length-le}
-use lib.Seq.{drop-cons}
+use lib.ListN.{length, take, drop, getD, drop-of-length-le, length-append}
+use lib.Seq.{drop-cons, take-at}
 use lib.Dec.{eqb}
 use borrow.Author.Tests.{eq-eqb, ne-eqb, le-leb, lt-leb}
 use Rattle.bytes.specs.Bytes.{rev, slice}
-use Rattle.codec.specs.Buffer.{laidAt}
+use Rattle.codec.specs.Buffer.{over, laidAt}
 use Rattle.codec.specs.Cases.{same}
 use Rattle.codec.specs.CasesLaws.{same-is}
 use Rattle.codec.specs.Refusals.{numberOf, refusalOf}
@@ -89,3 +89,9 @@ module _ (w : Written) (n v : ℕ) (full out : List ℕ) (p : w ≡ Done n) wher
 
     pub these-bytes : (m : List ℕ) (r : Bool) → s ≡ true → m ≡ rest n out → r ≡ allOf v m → r ≡ wroteOf w full out v
     these-bytes m r z g a = let t : same (firstOf n out) full ≡ true = sym tested ∙ z in rw (p, eq-eqb n (length full) h, t) (a ∙ rw g)
+
+-- bytes that were laid over others, as many as they are
+pub first-laid : (l z : List ℕ) → firstOf (length l) (over l z) ≡ l
+first-laid l z =
+    let h : length l ≤ length (over l z) = simp (length-append) (omega arith) in
+    rw (le-leb (length l) (length (over l z)) h) (take-at l (drop (length l) z) (length l) refl)

@@ -12,7 +12,7 @@ use Rattle.att.specs.declared.AttCfm.the-variants as cfm
 use Rattle.att.specs.declared.AttClient.{AttClient}
 use Rattle.att.specs.declared.AttClient.the-variants.{Request, Command, Confirmation}
 use Rattle.print.specs.Print.{capitals, hexText}
-use Rattle.replay_base.specs.Told.{numbered}
+use Rattle.console.specs.Console.{numbered}
 use Rattle.replay_place.specs.Places.{placeTexts}
 
 -- a UUID's own bytes

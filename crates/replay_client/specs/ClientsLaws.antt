@@ -12,7 +12,8 @@ use Rattle.att.specs.declared.AttCfm.the-variants.{ConfirmIndication}
 use Rattle.att.specs.declared.AttClient.{AttClient}
 use Rattle.console.specs.Console.{firstOf}
 use Rattle.print.specs.Print.{hexText}
-use Rattle.replay_base.specs.Told.{Wrote, first-laid}
+use Rattle.console.specs.ConsoleLaws.{Wrote}
+use Rattle.replay_base.specs.BaseLaws.{first-laid}
 use Rattle.replay_client.specs.Clients.{uuidTexts, requestTexts, confirmationTexts, clientTexts}
 
 pub request-as : (r q : AttReq) (u : Uuid) (src : List ℕ) (pos : ℕ) (out : List ℕ) (n : ℕ) (w : List ℕ) → r ≡ q

@@ -8,8 +8,7 @@ use uuid::Uuid;
 ghost use mathlib.Core.Path.{_≡_};
 ghost use mathlib.Core.List.{[], _∷_, _++_};
 ghost use Rattle.codec.specs.Ascii.{ascii};
-ghost use Rattle.console.specs.Console.{behind, holding};
-ghost use Rattle.replay_base.specs.Told.{numbered};
+ghost use Rattle.console.specs.Console.{behind, holding, numbered};
 ghost use Rattle.replay_place.specs.Places.{placeTexts};
 ghost use Rattle.replay_client.specs.Clients.{uuidTexts, requestTexts, commandTexts, confirmationTexts, clientTexts};
 

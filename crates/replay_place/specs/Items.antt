@@ -17,9 +17,8 @@ use Rattle.att_items.specs.declared.HandleUuid.{HandleUuid}
 use Rattle.att_items.specs.declared.HandleUuid.the-variants as handleUuid
 use Rattle.att_items.specs.declared.HandleValue.{HandleValue}
 use Rattle.att_items.specs.declared.HandleValue.the-variants as handleValue
-use Rattle.console.specs.Console.{behind, holding}
+use Rattle.console.specs.Console.{behind, holding, numbered}
 use Rattle.print.specs.Print.{capitals, hexText}
-use Rattle.replay_base.specs.Told.{numbered}
 use Rattle.replay_place.specs.Places.{placeTexts}
 use Rattle.replay_place.specs.declared.Shown.{Shown}
 

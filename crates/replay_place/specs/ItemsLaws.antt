@@ -18,7 +18,8 @@ use Rattle.att_items.specs.declared.HandleValue.the-variants as handleValue
 use Rattle.att_items.specs.declared.Information.{Information}
 use Rattle.console.specs.Console.{firstOf, behind, holding}
 use Rattle.print.specs.Print.{placed, hexText}
-use Rattle.replay_base.specs.Told.{Wrote, one, behind-append, holding-append, first-laid}
+use Rattle.console.specs.ConsoleLaws.{Wrote, one, behind-append, holding-append}
+use Rattle.replay_base.specs.BaseLaws.{first-laid}
 use Rattle.replay_place.specs.Places.{placeTexts}
 use Rattle.replay_place.specs.Items.{Item, given, none, separatedTexts, handled, ownTexts, uuidSaid, valueSaid, shownAs, lineAs, onward, walked}
 use Rattle.replay_place.specs.declared.Shown.{Shown}

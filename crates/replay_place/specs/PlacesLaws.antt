@@ -10,7 +10,7 @@ use Rattle.att.specs.declared.Span.{Span}
 use Rattle.att_decode.specs.Tests.{field}
 use Rattle.console.specs.Console.{behind, holding}
 use Rattle.print.specs.Print.{placed, decimalText}
-use Rattle.replay_base.specs.Told.{Wrote, one, joined}
+use Rattle.console.specs.ConsoleLaws.{Wrote, one, joined}
 use Rattle.replay_place.specs.Places.{placeTexts}
 
 module _ (name f src : List ℕ) (d : Span) (e : f ≡ field d src) (pos at r : ℕ) (out m w : List ℕ) (p : Wrote (name ∷ decimalText (d .at) ∷ []) pos out at m) where

@@ -10,7 +10,7 @@ use Rattle.att.specs.declared.AttUns.the-variants as uns
 use Rattle.att.specs.declared.AttServer.{AttServer}
 use Rattle.att.specs.declared.AttServer.the-variants.{Response, Unsolicited}
 use Rattle.print.specs.Print.{capitals}
-use Rattle.replay_base.specs.Told.{numbered}
+use Rattle.console.specs.Console.{numbered}
 use Rattle.replay_place.specs.Places.{placeTexts}
 use Rattle.replay_place.specs.Items.{itemsTexts}
 

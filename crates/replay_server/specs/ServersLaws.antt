@@ -6,7 +6,7 @@ use Rattle.att.specs.declared.Att.{Att}
 use Rattle.att.specs.declared.AttRsp.{AttRsp}
 use Rattle.att.specs.declared.AttUns.{AttUns}
 use Rattle.att.specs.declared.AttServer.{AttServer}
-use Rattle.replay_base.specs.Told.{Wrote}
+use Rattle.console.specs.ConsoleLaws.{Wrote}
 use Rattle.replay_server.specs.Servers.{responseTexts, unsolicitedTexts, serverTexts}
 
 pub response-as : (r q : AttRsp) (att : Att) (src : List ℕ) (pos : ℕ) (out : List ℕ) (n : ℕ) (w : List ℕ) → r ≡ q

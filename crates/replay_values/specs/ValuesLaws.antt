@@ -17,7 +17,8 @@ use Rattle.primitives.specs.declared.ReadU16.{ReadU16}
 use Rattle.primitives.specs.declared.ReadU32.{ReadU32}
 use Rattle.print.specs.Print.{placed, hexText, decimalText}
 use Rattle.replay_base.specs.Base.{sizeOf}
-use Rattle.replay_base.specs.Told.{Wrote, one, as-texts, first-laid}
+use Rattle.console.specs.ConsoleLaws.{Wrote, one, as-texts}
+use Rattle.replay_base.specs.BaseLaws.{first-laid}
 use Rattle.uuid.specs.Uuids.{rawOf, equal, uuidOf, sliced}
 use Rattle.uuid.specs.declared.Answer.{Answer}
 use Rattle.uuid.specs.declared.Raw.{Raw}

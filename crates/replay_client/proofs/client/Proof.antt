@@ -1,5 +1,5 @@
 -- `replay_client::client` meets its contract: each arm writes the texts of its packet.
-use Rattle.replay_base.specs.Told.{one, joined}
+use Rattle.console.specs.ConsoleLaws.{one, joined}
 use Rattle.replay_client.specs.ClientsLaws.{client-as}
 use borrow.Author.Needs.{needs}
 use Rattle.replay_client.proofs.client.Statement.{statement}

@@ -1,5 +1,5 @@
 -- `replay_client::confirmation` meets its contract: there is one confirmation.
-use Rattle.replay_base.specs.Told.{one}
+use Rattle.console.specs.ConsoleLaws.{one}
 use Rattle.replay_client.specs.ClientsLaws.{confirmation-is}
 use borrow.Author.Needs.{needs}
 use Rattle.replay_client.proofs.confirmation.Statement.{statement}

@@ -1,5 +1,5 @@
 -- `replay_client::one` meets its contract: no part stands behind the number.
-use Rattle.replay_base.specs.Told.{one, joined}
+use Rattle.console.specs.ConsoleLaws.{one, joined}
 use borrow.Author.Needs.{needs}
 use Rattle.replay_client.proofs.one.Statement.{statement}
 use Rattle.replay_client.proofs.one.Tie as tie

@@ -1,5 +1,5 @@
 -- `replay_client::part` meets its contract: the place stands behind the number.
-use Rattle.replay_base.specs.Told.{joined}
+use Rattle.console.specs.ConsoleLaws.{joined}
 use borrow.Author.Needs.{needs}
 use Rattle.replay_client.proofs.part.Statement.{statement}
 use Rattle.replay_client.proofs.part.Tie as tie

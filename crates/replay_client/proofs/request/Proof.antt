@@ -1,5 +1,5 @@
 -- `replay_client::request` meets its contract: each arm writes the texts of its request.
-use Rattle.replay_base.specs.Told.{one, joined}
+use Rattle.console.specs.ConsoleLaws.{one, joined}
 use Rattle.replay_client.specs.ClientsLaws.{request-as}
 use borrow.Author.Needs.{needs}
 use Rattle.replay_client.proofs.request.Statement.{statement}

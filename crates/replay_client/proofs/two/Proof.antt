@@ -1,5 +1,5 @@
 -- `replay_client::two` meets its contract: a number stands behind the other.
-use Rattle.replay_base.specs.Told.{joined}
+use Rattle.console.specs.ConsoleLaws.{joined}
 use borrow.Author.Needs.{needs}
 use Rattle.replay_client.proofs.two.Statement.{statement}
 use Rattle.replay_client.proofs.two.Tie as tie

@@ -1,6 +1,6 @@
 -- `replay_place::item_of_pairs` meets its contract: handle and end, or none.
 use mathlib.Core.Path.{sym, ap, _∙_}
-use Rattle.replay_base.specs.Told.{one, joined}
+use Rattle.console.specs.ConsoleLaws.{one, joined}
 use Rattle.replay_place.specs.Items.{pairSaid}
 use Rattle.replay_place.specs.ItemsLaws.{item-given, item-none}
 use borrow.Author.Needs.{needs}

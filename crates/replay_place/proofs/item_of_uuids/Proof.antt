@@ -1,5 +1,5 @@
 -- `replay_place::item_of_uuids` meets its contract: handle and UUID, or none.
-use Rattle.replay_base.specs.Told.{one, joined}
+use Rattle.console.specs.ConsoleLaws.{one, joined}
 use Rattle.replay_place.specs.ItemsLaws.{item-given, item-none, said-of}
 use borrow.Author.Needs.{needs}
 use Rattle.replay_place.proofs.item_of_uuids.Statement.{statement}

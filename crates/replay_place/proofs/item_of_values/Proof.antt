@@ -1,6 +1,6 @@
 -- `replay_place::item_of_values` meets its contract: handle and the place of the rest, or none.
 use mathlib.Core.Path.{sym, ap, _∙_}
-use Rattle.replay_base.specs.Told.{one, joined}
+use Rattle.console.specs.ConsoleLaws.{one, joined}
 use Rattle.replay_place.specs.Items.{valueSaid}
 use Rattle.replay_place.specs.ItemsLaws.{item-given, item-none, as-long, not-as-long}
 use borrow.Author.Needs.{needs}

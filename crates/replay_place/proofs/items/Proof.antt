@@ -1,5 +1,5 @@
 -- `replay_place::items` meets its contract: the items stand in brackets.
-use Rattle.replay_base.specs.Told.{one, joined}
+use Rattle.console.specs.ConsoleLaws.{one, joined}
 use borrow.Author.Needs.{needs}
 use Rattle.replay_place.proofs.items.Statement.{statement}
 use Rattle.replay_place.proofs.items.Tie as tie

@@ -1,5 +1,5 @@
 -- `replay_server::error` meets its contract: one number behind the other.
-use Rattle.replay_base.specs.Told.{one, joined}
+use Rattle.console.specs.ConsoleLaws.{one, joined}
 use borrow.Author.Needs.{needs}
 use Rattle.replay_server.proofs.error.Statement.{statement}
 use Rattle.replay_server.proofs.error.Tie as tie

@@ -1,5 +1,5 @@
 -- `replay_server::response` meets its contract: each arm writes the texts of its response.
-use Rattle.replay_base.specs.Told.{one, joined}
+use Rattle.console.specs.ConsoleLaws.{one, joined}
 use Rattle.replay_server.specs.ServersLaws.{response-as}
 use borrow.Author.Needs.{needs}
 use Rattle.replay_server.proofs.response.Statement.{statement}

@@ -1,5 +1,5 @@
 -- `replay_server::server` meets its contract: each arm writes the texts of its packet.
-use Rattle.replay_base.specs.Told.{one, joined}
+use Rattle.console.specs.ConsoleLaws.{one, joined}
 use Rattle.replay_server.specs.ServersLaws.{server-as}
 use borrow.Author.Needs.{needs}
 use Rattle.replay_server.proofs.server.Statement.{statement}

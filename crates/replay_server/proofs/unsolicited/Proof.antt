@@ -1,5 +1,5 @@
 -- `replay_server::unsolicited` meets its contract: each arm writes the texts of its packet.
-use Rattle.replay_base.specs.Told.{joined}
+use Rattle.console.specs.ConsoleLaws.{joined}
 use Rattle.replay_server.specs.ServersLaws.{unsolicited-as}
 use borrow.Author.Needs.{needs}
 use Rattle.replay_server.proofs.unsolicited.Statement.{statement}

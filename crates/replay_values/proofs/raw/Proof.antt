@@ -1,5 +1,5 @@
 -- `replay_values::raw` meets its contract: how many count stands behind the bytes.
-use Rattle.replay_base.specs.Told.{joined}
+use Rattle.console.specs.ConsoleLaws.{joined}
 use borrow.Author.Needs.{needs}
 use Rattle.replay_values.proofs.raw.Statement.{statement}
 use Rattle.replay_values.proofs.raw.Tie as tie
