@@ -94,31 +94,28 @@ pub fn rooms(full: &[u8], encode: impl Fn(&mut [u8]) -> Result<(), codec::Error>
     r
 }
 
-fn words(numbers: &[u16]) -> String {
-    numbers.iter().map(|n| format!("{n:04X}")).collect::<Vec<_>>().join(",")
-}
-
 /// Where a part stands in the packet: the crate lends it, so its address says.
 fn place(packet: &[u8], part: &[u8]) -> String {
     let at = (part.as_ptr() as usize).wrapping_sub(packet.as_ptr() as usize);
     if at > packet.len() || packet.len() - at < part.len() {
-        return "outside".into();
+        return " at=outside".into();
     }
-    format!("{at}..{}", at + part.len())
+    format!(" at={at}+{}", part.len())
 }
 
-fn listed<T>(mut next: impl FnMut() -> Option<Result<T, crate::Error>>, show: impl Fn(T) -> String) -> String {
-    let mut items = Vec::new();
+/// What is said of the items of a list, one behind the other.
+fn listed<T>(mut next: impl FnMut() -> Option<Result<T, crate::Error>>, mut show: impl FnMut(T) -> String) -> String {
+    let mut items = String::new();
     while let Some(item) = next() {
         match item {
-            Ok(item) => items.push(show(item)),
+            Ok(item) => items += &show(item),
             Err(e) => {
-                items.push(format!("{e:?}"));
+                items += &format!(" {e:?}");
                 break;
             }
         }
     }
-    format!("[{}]", items.join(","))
+    items
 }
 
 /// The second byte of the encoding: the format and the item length are private to the iterators.
@@ -126,78 +123,105 @@ fn second(att: &Att) -> u8 {
     encode_into(2, |out| att.encode(out)).bytes[1]
 }
 
-/// The case, its numbers and its part. Items of length 0 and 1 are not walked: see claims.rs.
-fn fields(packet: &[u8], att: &Att) -> (&'static str, String, String) {
+/// TYPE, from the bytes of a UUID's own form.
+fn kind(uuid: &Uuid) -> String {
+    let mut big = uuid.as_raw().to_vec();
+    big.reverse();
+    if big.len() < 16 {
+        return hex(&big);
+    }
+    [0..4, 4..6, 6..8, 8..10, 10..16].map(|part| hex(&big[part])).join("-")
+}
+
+/// The text of a code, where it has an end.
+fn meaning(code: AttErrorCode) -> String {
+    match text_into(code.to_u8(), 1000) {
+        (true, text) => text,
+        (false, _) => ENDLESS.into(),
+    }
+}
+
+/// What stands for a text that never ends.
+pub const ENDLESS: &str = "never ends";
+
+/// The packet in words, and the places of its parts. Items of length 0 and 1 are not walked: see claims.rs.
+fn fields(packet: &[u8], att: &Att) -> (String, String) {
     let part = |p: &[u8]| place(packet, p);
-    let none = String::from("-");
-    let by_type = |it: &ReadByTypeIter, n: u8| {
-        let mut it = it.clone();
-        if n < 2 {
-            return String::from("-");
-        }
-        listed(|| it.next(), |(h, d)| format!("{h:04X}@{}", place(packet, d)))
+    let none = String::new();
+    let by_type = |name: &str, it: &ReadByTypeIter| {
+        let n = second(att);
+        let (mut it, mut places) = (it.clone(), String::new());
+        let items = match n {
+            0 | 1 => String::new(),
+            _ => listed(|| it.next(), |(h, d)| {
+                places += &place(packet, d);
+                format!(" item={h:04X}:{}", hex(d))
+            }),
+        };
+        (format!("{name} item_len={n}{items}"), places)
     };
-    match att {
-        Att::Client(AttClient::Request(r)) => match r {
-            AttReq::ReadByGroupType { start, end, group_type } => {
-                ("client.request.ReadByGroupType", words(&[*start, *end]), hex(group_type.as_raw()))
-            }
-            AttReq::ReadByType { start, end, attribute_type } => {
-                ("client.request.ReadByType", words(&[*start, *end]), hex(attribute_type.as_raw()))
-            }
-            AttReq::Read { handle } => ("client.request.Read", words(&[*handle]), none),
-            AttReq::Write { handle, data } => ("client.request.Write", words(&[*handle]), part(data)),
-            AttReq::ExchangeMtu { mtu } => ("client.request.ExchangeMtu", words(&[*mtu]), none),
-            AttReq::FindByTypeValue { start_handle, end_handle, att_type, att_value } => {
-                ("client.request.FindByTypeValue", words(&[*start_handle, *end_handle, *att_type]), part(att_value))
-            }
-            AttReq::FindInformation { start_handle, end_handle } => {
-                ("client.request.FindInformation", words(&[*start_handle, *end_handle]), none)
-            }
-            AttReq::PrepareWrite { handle, offset, value } => {
-                ("client.request.PrepareWrite", words(&[*handle, *offset]), part(value))
-            }
-            AttReq::ExecuteWrite { flags } => ("client.request.ExecuteWrite", format!("{flags:02X}"), none),
-            AttReq::ReadMultiple { handles } => ("client.request.ReadMultiple", none, part(handles)),
-            AttReq::ReadBlob { handle, offset } => ("client.request.ReadBlob", words(&[*handle, *offset]), none),
-        },
+    let (kind_of, (words, places)) = match att {
+        Att::Client(AttClient::Request(r)) => ("client request", request(r, part)),
         Att::Client(AttClient::Command(AttCmd::Write { handle, data })) => {
-            ("client.command.Write", words(&[*handle]), part(data))
+            ("client command", (format!("Write handle={handle:04X} data={}", hex(data)), part(data)))
         }
         Att::Client(AttClient::Confirmation(AttCfm::ConfirmIndication)) => {
-            ("client.confirmation.ConfirmIndication", none.clone(), none)
+            ("client confirmation", ("ConfirmIndication".into(), none))
         }
-        Att::Server(AttServer::Response(r)) => match r {
-            AttRsp::ExchangeMtu { mtu } => ("server.response.ExchangeMtu", words(&[*mtu]), none),
+        Att::Server(AttServer::Response(r)) => ("server response", match r {
+            AttRsp::ExchangeMtu { mtu } => (format!("ExchangeMtu mtu={mtu:04X}"), none),
             AttRsp::FindByTypeValue { it } => {
                 let mut it = it.clone();
-                let items = listed(|| it.next(), |(h, e)| format!("{h:04X}-{e:04X}"));
-                ("server.response.FindByTypeValue", none, items)
+                (format!("FindByTypeValue{}", listed(|| it.next(), |(h, e)| format!(" item={h:04X}:{e:04X}"))), none)
             }
             AttRsp::FindInformation { it } => {
                 let mut it = it.clone();
-                let items = listed(|| it.next(), |(h, u)| format!("{h:04X}:{}", hex(u.as_raw())));
-                ("server.response.FindInformation", format!("{:02X}", second(att)), items)
+                let items = listed(|| it.next(), |(h, u)| format!(" item={h:04X}:{}", kind(&u)));
+                (format!("FindInformation format={:02X}{items}", second(att)), none)
             }
             AttRsp::Error { request, handle, code } => {
-                ("server.response.Error", format!("{request:02X},{handle:04X},{:02X}", code.to_u8()), none)
+                let (code, text) = (code.to_u8(), meaning(*code));
+                (format!("Error request={request:02X} handle={handle:04X} code={code:02X} ({text})"), none)
             }
-            AttRsp::ReadByType { it } => {
-                let n = second(att);
-                ("server.response.ReadByType", format!("{n:02X}"), by_type(it, n))
-            }
-            AttRsp::ReadByGroupType { it } => {
-                let n = second(att);
-                ("server.response.ReadByGroupType", format!("{n:02X}"), by_type(it, n))
-            }
-            AttRsp::Read { data } => ("server.response.Read", none, part(data)),
-            AttRsp::ReadBlob { data } => ("server.response.ReadBlob", none, part(data)),
-            AttRsp::Write => ("server.response.Write", none.clone(), none),
-        },
-        Att::Server(AttServer::Unsolicited(u)) => match u {
-            AttUns::Notify { handle, data } => ("server.unsolicited.Notify", words(&[*handle]), part(data)),
-            AttUns::Indicate { handle, data } => ("server.unsolicited.Indicate", words(&[*handle]), part(data)),
-        },
+            AttRsp::ReadByType { it } => by_type("ReadByType", it),
+            AttRsp::ReadByGroupType { it } => by_type("ReadByGroupType", it),
+            AttRsp::Read { data } => (format!("Read data={}", hex(data)), part(data)),
+            AttRsp::ReadBlob { data } => (format!("ReadBlob data={}", hex(data)), part(data)),
+            AttRsp::Write => ("Write".into(), none),
+        }),
+        Att::Server(AttServer::Unsolicited(u)) => ("server unsolicited", match u {
+            AttUns::Notify { handle, data } => (format!("Notify handle={handle:04X} data={}", hex(data)), part(data)),
+            AttUns::Indicate { handle, data } => (format!("Indicate handle={handle:04X} data={}", hex(data)), part(data)),
+        }),
+    };
+    (format!("{kind_of} {words}"), places)
+}
+
+fn request(r: &AttReq, part: impl Fn(&[u8]) -> String) -> (String, String) {
+    let none = String::new();
+    match r {
+        AttReq::ReadByGroupType { start, end, group_type } => {
+            (format!("ReadByGroupType start={start:04X} end={end:04X} group_type={}", kind(group_type)), none)
+        }
+        AttReq::ReadByType { start, end, attribute_type } => {
+            (format!("ReadByType start={start:04X} end={end:04X} attribute_type={}", kind(attribute_type)), none)
+        }
+        AttReq::Read { handle } => (format!("Read handle={handle:04X}"), none),
+        AttReq::Write { handle, data } => (format!("Write handle={handle:04X} data={}", hex(data)), part(data)),
+        AttReq::ExchangeMtu { mtu } => (format!("ExchangeMtu mtu={mtu:04X}"), none),
+        AttReq::FindByTypeValue { start_handle: s, end_handle: e, att_type, att_value } => {
+            let value = hex(att_value);
+            (format!("FindByTypeValue start_handle={s:04X} end_handle={e:04X} att_type={att_type:04X} att_value={value}"), part(att_value))
+        }
+        AttReq::FindInformation { start_handle, end_handle } => {
+            (format!("FindInformation start_handle={start_handle:04X} end_handle={end_handle:04X}"), none)
+        }
+        AttReq::PrepareWrite { handle, offset, value } => {
+            (format!("PrepareWrite handle={handle:04X} offset={offset:04X} value={}", hex(value)), part(value))
+        }
+        AttReq::ExecuteWrite { flags } => (format!("ExecuteWrite flags={flags:02X}"), none),
+        AttReq::ReadMultiple { handles } => (format!("ReadMultiple handles={}", hex(handles)), part(handles)),
+        AttReq::ReadBlob { handle, offset } => (format!("ReadBlob handle={handle:04X} offset={offset:04X}"), none),
     }
 }
 
@@ -207,13 +231,12 @@ pub fn packet(bytes: &[u8]) -> Packet {
         Some(Err(e)) => return Packet::Refused(number(e)),
         Some(Ok(att)) => att,
     };
-    let (name, numbers, part) = fields(bytes, &att);
+    let (words, places) = fields(bytes, &att);
     let encode = |out: &mut [u8]| att.encode(out);
     let full = encode_into(bytes.len() + 8, encode);
     let n = full.written.unwrap_or(0);
     let encoding = match full.outcome {
-        Some(0) if full.bytes[..n] == bytes[..n] => n.to_string(),
-        Some(0) => format!("!{}", hex(&full.bytes[..n])),
+        Some(0) => hex(&full.bytes[..n]),
         Some(e) => format!("refused{e}"),
         None => "X".into(),
     };
@@ -223,7 +246,7 @@ pub fn packet(bytes: &[u8]) -> Packet {
         Some(_) => rooms(&full.bytes[..n], encode),
         None => rooms(&bytes[..bytes.len().min(24)], encode),
     };
-    Packet::Decoded(View { name: name.into(), numbers, part, encoding, size }, rooms)
+    Packet::Decoded(View { words, places, encoding, size }, rooms)
 }
 
 /// A typed 08 or 10: its encoding, what size says, and the rooms.

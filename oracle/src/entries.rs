@@ -206,16 +206,42 @@ fn fresh_size(op: u8) -> Option<&'static str> {
     }
 }
 
-/// The crate's reply as the fixed list shows it.
+/// The crate's reply as the fixed list shows it. What items of length 0 and 1 are walked and encoded to is in claims.rs.
 pub fn shown(p: &Packet) -> String {
     match p {
-        Packet::Decoded(v, _) if v.part == "-" && matches!(v.numbers.as_str(), "00" | "01") && v.name.contains("ReadBy") => {
-            format!("0 {} {}", v.name, v.numbers)
-        }
+        Packet::Decoded(v, _) if [" item_len=0", " item_len=1"].iter().any(|end| v.words.ends_with(end)) => v.words.clone(),
         Packet::Decoded(v, _) => v.to_string(),
-        Packet::Refused(n) => n.to_string(),
+        Packet::Refused(n) => refusal(*n),
         Packet::Panic => "X".into(),
     }
+}
+
+fn refusal(n: u8) -> String {
+    format!("refused {n} {}", ["InsufficientSpace", "InvalidValue"][n as usize - 1])
+}
+
+/// A reply on a packet that decodes, taken apart.
+struct Said<'a> {
+    words: &'a str,
+    size: &'a str,
+    /// What it says that encoding writes: `None` for the packet itself, which it calls strict.
+    encodes: Option<&'a str>,
+    rooms: &'a str,
+    places: String,
+}
+
+fn said(reply: &str) -> Option<Said<'_>> {
+    // No word behind the size holds one: an error's text, which may hold anything, stands before it.
+    let (words, behind) = reply.rsplit_once(" size=")?;
+    let mut behind = behind.split(' ');
+    let size = behind.next()?;
+    let encodes = match behind.next()? {
+        "strict" => None,
+        "tolerant" => Some(behind.next()?.strip_prefix("encodes=")?),
+        _ => return None,
+    };
+    let rooms = behind.next()?.strip_prefix("rooms=")?;
+    Some(Said { words, size, encodes, rooms, places: behind.map(|w| format!(" {w}")).collect() })
 }
 
 fn packet(b: &[u8], reply: &str, t: &mut Tally, differs: &dyn Fn(&str) -> String) {
@@ -223,9 +249,9 @@ fn packet(b: &[u8], reply: &str, t: &mut Tally, differs: &dyn Fn(&str) -> String
     let (op, payload) = (b.first().copied().unwrap_or(0), b.len().saturating_sub(1));
     let rust = crate_side::packet(b);
     let right = || reply == Paper::default().reply(&Request::Packet(b.to_vec()));
-    let refused = reply == "2";
+    let refused = reply == refusal(2);
     match &rust {
-        Packet::Refused(n) => t.settle(reply == n.to_string(), None, || differs(&n.to_string())),
+        Packet::Refused(n) => t.settle(reply == refusal(*n), None, || differs(&refusal(*n))),
         Packet::Panic => {
             let entry = match (op, payload) {
                 _ if refused && panics_short(op, payload) => Some("D-01"),
@@ -242,35 +268,36 @@ fn packet(b: &[u8], reply: &str, t: &mut Tally, differs: &dyn Fn(&str) -> String
             }
         }
         Packet::Decoded(view, rooms) => {
-            let words: Vec<&str> = reply.split(' ').collect();
-            if words.len() != 8 {
+            let Some(said) = said(reply) else {
                 return t.unlisted_as(differs(&shown(&rust)));
-            }
-            decoded(op, b, view, rooms, &words, right(), t, &|| differs(&format!("{view} {rooms:?}")));
+            };
+            decoded(op, b, view, rooms, &said, right(), t, &|| differs(&format!("{view} {rooms:?}")));
             claims::packet_and_cursor(b, t);
         }
     }
 }
 
-fn decoded(op: u8, b: &[u8], view: &View, rooms: &Rooms, words: &[&str], right: bool, t: &mut Tally, differs: &dyn Fn() -> String) {
-    let fields = words[0] == "0" && words[1] == view.name && words[2] == view.numbers && words[3] == view.part;
-    t.settle(fields, None, differs);
+fn decoded(op: u8, b: &[u8], view: &View, rooms: &Rooms, said: &Said, right: bool, t: &mut Tally, differs: &dyn Fn() -> String) {
+    let endless = op == 0x01 && view.words.ends_with(&format!(" ({})", crate_side::ENDLESS)) && right;
+    t.settle(said.words == view.words && said.places == view.places, endless.then_some("D-09"), differs);
 
+    let itself = hex(b);
+    let encodes = said.encodes.unwrap_or(&itself);
     let bare = view.encoding == "X" && unimplemented(op) && right;
-    t.settle(words[4] == view.encoding, bare.then_some("D-05"), differs);
+    t.settle(encodes == view.encoding, bare.then_some("D-05"), differs);
 
     let size = match fresh_size(op) {
         _ if view.size == "X" && unimplemented(op) && right => Some("D-10"),
-        Some(fresh) if view.size == fresh && words[5] == words[4] => Some("D-04"),
+        Some(fresh) if view.size == fresh && said.size == (encodes.len() / 2).to_string() => Some("D-04"),
         _ => None,
     };
-    t.settle(words[5] == view.size, size, differs);
+    t.settle(said.size == view.size, size, differs);
 
     let refused = rooms.untouched + rooms.partly;
     if bare {
         let every = rooms.panics > 0 && refused + rooms.encoded + rooms.odd == 0;
         t.settle(false, every.then_some("D-05"), differs);
-    } else if rooms.odd + rooms.panics == 0 && words[6] == format!("{refused}/{}", rooms.encoded) {
+    } else if rooms.odd + rooms.panics == 0 && said.rooms == format!("{refused}/{}", rooms.encoded) {
         t.equal((rooms.untouched + rooms.encoded) as u64);
         if rooms.partly > 0 {
             t.listed("D-07", rooms.partly as u64);
@@ -281,7 +308,7 @@ fn decoded(op: u8, b: &[u8], view: &View, rooms: &Rooms, words: &[&str], right: 
 
     let strict = Paper::default().packet(b).is_some_and(|w| w.strict);
     t.strict += 1;
-    if words[7] != if strict { "strict" } else { "tolerant" } {
+    if said.encodes.is_none() != strict {
         t.unlisted_as(differs());
     }
 }

@@ -13,6 +13,7 @@ pub enum Knob {
     OneMoreToDecode,
     OneLessToDecode,
     OtherCase,
+    FieldMisnamed,
     FieldsSwapped,
     BigEndian,
     PartOneOn,
@@ -61,17 +62,18 @@ pub enum Fault {
 fn all() -> Vec<Fault> {
     use Knob::*;
     let mut out = Vec::new();
-    for Row(op, _, widths, rest) in ROWS {
+    for Row(op, _, fields, rest, _) in ROWS {
         let items = matches!(rest, Rest::Infos | Rest::Pairs | Rest::Items);
-        let numbers = widths.iter().any(|w| *w > 1);
+        let numbers = fields.iter().any(|f| f.1 > 1);
         out.extend([Dropped, OtherCase, SizeOneMore, StrictTurned].map(|k| Fault::Row(op, k)));
         out.extend([NeedsOneMoreRoom, WritesOnRefusal, WritesBehind].map(|k| Fault::Row(op, k)));
         let only = |on: bool, knobs: &[Knob]| knobs.iter().filter(|_| on).map(|k| Fault::Row(op, *k)).collect::<Vec<_>>();
         out.extend(only(rest != Rest::Uuid, &[OneMoreToDecode]));
         out.extend(only(rest == Rest::Uuid, &[TakesFourBytes, LongRefused]));
-        out.extend(only(widths.len() > 0 && rest != Rest::Uuid && !items, &[OneLessToDecode]));
+        out.extend(only(fields.len() > 0 && rest != Rest::Uuid && !items, &[OneLessToDecode]));
+        out.extend(only(fields.len() > 0, &[FieldMisnamed]));
         out.extend(only(numbers, &[BigEndian]));
-        out.extend(only(widths.len() > 1, &[FieldsSwapped]));
+        out.extend(only(fields.len() > 1, &[FieldsSwapped]));
         out.extend(only(rest == Rest::Data || items, &[PartOneOn]));
         out.extend(only(items, &[ItemOneLonger, LastItemLost, TailKept]));
     }

@@ -199,7 +199,7 @@ fn random_packets(_: bool, f: Sink) -> bool {
 }
 
 /// A packet in the form that Core F has it.
-fn strict(dice: &mut Dice) -> Vec<u8> {
+pub fn strict(dice: &mut Dice) -> Vec<u8> {
     let op = ROWS[dice.below(24) as usize].0;
     let n = dice.below(30) as usize;
     let items = 1 + dice.below(5) as usize;

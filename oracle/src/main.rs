@@ -34,6 +34,8 @@ mod inputs;
 mod list;
 mod paper;
 mod request;
+#[cfg(speed)]
+mod speed;
 
 /// Overflow checks on: the build that panics where an unchecked subtraction wraps in the other one.
 pub fn checked() -> bool {
@@ -49,6 +51,8 @@ fn main() {
         Some("faults") => faults::run(),
         Some("paper") => drive::answer_by_paper(),
         Some("text") => crate_side::print_text(&words[1]),
+        #[cfg(speed)]
+        Some("speed") => speed::run(),
         _ => {
             eprintln!("run [--all-of-length-3] PROGRAM WORDS.. | list | faults | paper | text CODE");
             2

@@ -18,34 +18,35 @@ pub enum Rest {
     Items,
 }
 
-/// A row of the table "Packets": opcode, case, widths of the fixed fields, what follows.
-pub struct Row(pub u8, pub &'static str, pub &'static [usize], pub Rest);
+/// A row of the table "Packets": opcode, the packet's name in words, names and widths of the fixed fields, what follows
+/// them, and its name.
+pub struct Row(pub u8, pub &'static str, pub &'static [(&'static str, usize)], pub Rest, pub &'static str);
 
 pub const ROWS: [Row; 24] = [
-    Row(0x01, "server.response.Error", &[1, 2, 1], Rest::Nothing),
-    Row(0x02, "client.request.ExchangeMtu", &[2], Rest::Nothing),
-    Row(0x03, "server.response.ExchangeMtu", &[2], Rest::Nothing),
-    Row(0x04, "client.request.FindInformation", &[2, 2], Rest::Nothing),
-    Row(0x05, "server.response.FindInformation", &[1], Rest::Infos),
-    Row(0x06, "client.request.FindByTypeValue", &[2, 2, 2], Rest::Data),
-    Row(0x07, "server.response.FindByTypeValue", &[], Rest::Pairs),
-    Row(0x08, "client.request.ReadByType", &[2, 2], Rest::Uuid),
-    Row(0x09, "server.response.ReadByType", &[1], Rest::Items),
-    Row(0x0A, "client.request.Read", &[2], Rest::Nothing),
-    Row(0x0B, "server.response.Read", &[], Rest::Data),
-    Row(0x0C, "client.request.ReadBlob", &[2, 2], Rest::Nothing),
-    Row(0x0D, "server.response.ReadBlob", &[], Rest::Data),
-    Row(0x10, "client.request.ReadByGroupType", &[2, 2], Rest::Uuid),
-    Row(0x11, "server.response.ReadByGroupType", &[1], Rest::Items),
-    Row(0x12, "client.request.Write", &[2], Rest::Data),
-    Row(0x13, "server.response.Write", &[], Rest::Nothing),
-    Row(0x16, "client.request.PrepareWrite", &[2, 2], Rest::Data),
-    Row(0x18, "client.request.ExecuteWrite", &[1], Rest::Nothing),
-    Row(0x1B, "server.unsolicited.Notify", &[2], Rest::Data),
-    Row(0x1D, "server.unsolicited.Indicate", &[2], Rest::Data),
-    Row(0x1E, "client.confirmation.ConfirmIndication", &[], Rest::Nothing),
-    Row(0x20, "client.request.ReadMultiple", &[], Rest::Data),
-    Row(0x52, "client.command.Write", &[2], Rest::Data),
+    Row(0x01, "server response Error", &[("request", 1), ("handle", 2), ("code", 1)], Rest::Nothing, ""),
+    Row(0x02, "client request ExchangeMtu", &[("mtu", 2)], Rest::Nothing, ""),
+    Row(0x03, "server response ExchangeMtu", &[("mtu", 2)], Rest::Nothing, ""),
+    Row(0x04, "client request FindInformation", &[("start_handle", 2), ("end_handle", 2)], Rest::Nothing, ""),
+    Row(0x05, "server response FindInformation", &[("format", 1)], Rest::Infos, ""),
+    Row(0x06, "client request FindByTypeValue", &[("start_handle", 2), ("end_handle", 2), ("att_type", 2)], Rest::Data, "att_value"),
+    Row(0x07, "server response FindByTypeValue", &[], Rest::Pairs, ""),
+    Row(0x08, "client request ReadByType", &[("start", 2), ("end", 2)], Rest::Uuid, "attribute_type"),
+    Row(0x09, "server response ReadByType", &[("item_len", 1)], Rest::Items, ""),
+    Row(0x0A, "client request Read", &[("handle", 2)], Rest::Nothing, ""),
+    Row(0x0B, "server response Read", &[], Rest::Data, "data"),
+    Row(0x0C, "client request ReadBlob", &[("handle", 2), ("offset", 2)], Rest::Nothing, ""),
+    Row(0x0D, "server response ReadBlob", &[], Rest::Data, "data"),
+    Row(0x10, "client request ReadByGroupType", &[("start", 2), ("end", 2)], Rest::Uuid, "group_type"),
+    Row(0x11, "server response ReadByGroupType", &[("item_len", 1)], Rest::Items, ""),
+    Row(0x12, "client request Write", &[("handle", 2)], Rest::Data, "data"),
+    Row(0x13, "server response Write", &[], Rest::Nothing, ""),
+    Row(0x16, "client request PrepareWrite", &[("handle", 2), ("offset", 2)], Rest::Data, "value"),
+    Row(0x18, "client request ExecuteWrite", &[("flags", 1)], Rest::Nothing, ""),
+    Row(0x1B, "server unsolicited Notify", &[("handle", 2)], Rest::Data, "data"),
+    Row(0x1D, "server unsolicited Indicate", &[("handle", 2)], Rest::Data, "data"),
+    Row(0x1E, "client confirmation ConfirmIndication", &[], Rest::Nothing, ""),
+    Row(0x20, "client request ReadMultiple", &[], Rest::Data, "handles"),
+    Row(0x52, "client command Write", &[("handle", 2)], Rest::Data, "data"),
 ];
 
 pub struct Wanted {
@@ -56,8 +57,11 @@ pub struct Wanted {
 }
 
 impl Wanted {
+    /// The line of `explain`, and behind it the rooms and the places.
     fn line(&self) -> String {
-        format!("{} {} {}", self.view, self.rooms, if self.strict { "strict" } else { "tolerant" })
+        let View { words, places, encoding, size } = &self.view;
+        let form = if self.strict { "strict".into() } else { format!("tolerant encodes={encoding}") };
+        format!("{words} size={size} {form} rooms={}{places}", self.rooms)
     }
 }
 
@@ -68,6 +72,15 @@ pub struct Paper {
 
 fn little(bytes: &[u8]) -> u32 {
     bytes.iter().rev().fold(0, |n, b| n * 256 + *b as u32)
+}
+
+/// TYPE: the number as it is read, or the usual form of a 128-bit UUID.
+fn kind_of(own: &[u8]) -> String {
+    let big: Vec<u8> = own.iter().rev().copied().collect();
+    match big.len() {
+        16 => [0..4, 4..6, 6..8, 8..10, 10..16].map(|part| hex(&big[part])).join("-"),
+        _ => hex(&big),
+    }
 }
 
 fn whole_items(rest: usize, each: usize) -> usize {
@@ -85,7 +98,7 @@ impl Paper {
 
     pub fn reply(&self, request: &Request) -> String {
         match request {
-            Request::Packet(b) => self.packet(b).map_or("2".into(), |w| w.line()),
+            Request::Packet(b) => self.packet(b).map_or("refused 2 InvalidValue".into(), |w| w.line()),
             Request::Typed { op, start, end, uuid } => self.typed(*op, *start, *end, uuid),
             Request::Read(b, ops) => self.walk_read(b, ops),
             Request::Write(b, ops) => self.walk_write(b, ops),
@@ -118,16 +131,16 @@ impl Paper {
             Some(Fault::Slip(Slip::TakesReply(as_op, reply))) if first == reply => as_op,
             _ => first,
         };
-        let Row(_, name, widths, kind) = ROWS.iter().find(|r| r.0 == op && !self.knob(op, Knob::Dropped))?;
-        let fixed: usize = widths.iter().sum();
+        let Row(_, name, fields, kind, part) = ROWS.iter().find(|r| r.0 == op && !self.knob(op, Knob::Dropped))?;
+        let fixed: usize = fields.iter().map(|f| f.1).sum();
         let least = fixed + self.knob(op, Knob::OneMoreToDecode) as usize;
         if payload.len() < least && !(self.knob(op, Knob::OneLessToDecode) && payload.len() + 1 == fixed) {
             return None;
         }
-        let mut padded = payload.to_vec();
-        padded.resize(payload.len().max(fixed), 0);
+        let mut padded = packet.to_vec();
+        padded.resize(packet.len().max(1 + fixed), 0);
         let rest = payload.len().saturating_sub(fixed);
-        let head = padded[0..fixed].first().copied().unwrap_or(0) as usize;
+        let head = padded[1..1 + fixed].first().copied().unwrap_or(0) as usize;
         let each = match kind {
             Rest::Uuid if rest == 16 && self.knob(op, Knob::LongRefused) => return None,
             Rest::Uuid if rest != 2 && rest != 16 && !(rest == 4 && self.knob(op, Knob::TakesFourBytes)) => return None,
@@ -153,14 +166,15 @@ impl Paper {
             Rest::Uuid => true,
             _ => rest >= each && rest % each == 0 && (op != 0x11 || each >= 4),
         } != self.knob(op, Knob::StrictTurned);
-        let part = match kind {
-            Rest::Nothing => "-".into(),
-            Rest::Data => format!("{at}..{}", 1 + payload.len()),
-            Rest::Uuid => hex(&payload[fixed..]),
+        let (follows, places) = match kind {
+            Rest::Nothing => self.meaning(op, &padded),
+            Rest::Data => (format!(" {part}={}", hex(packet.get(at..).unwrap_or(&[]))), format!(" at={at}+{}", packet.len().saturating_sub(at))),
+            Rest::Uuid => (format!(" {part}={}", kind_of(&payload[fixed..])), String::new()),
             _ => self.items(packet, *kind, at, 1 + fixed + whole_items(rest, each), each),
         };
-        let view = View { name: self.name(op, name), numbers: self.numbers(op, &padded, widths), part, encoding: n.to_string(), size: size.to_string() };
+        let words = format!("{}{}{follows}", self.name(op, name), self.numbers(op, &padded[1..], fields));
         debug_assert!(listed || each == 1 || self.fault.is_some());
+        let view = View { words, places, encoding: hex(&padded[..n]), size: size.to_string() };
         Some(Wanted { view, rooms: self.rooms(op, n), strict })
     }
 
@@ -169,6 +183,12 @@ impl Paper {
             return name.into();
         }
         ROWS.iter().find(|r| r.0 != op && r.1.starts_with(&name[..6])).unwrap().1.into()
+    }
+
+    /// Behind an error's code, its text in parentheses; nothing in another packet that ends with its fields.
+    fn meaning(&self, op: u8, packet: &[u8]) -> (String, String) {
+        let text = if op == 0x01 { format!(" ({})", self.text_of(packet[4])) } else { String::new() };
+        (text, String::new())
     }
 
     fn rooms(&self, op: u8, n: usize) -> String {
@@ -182,40 +202,43 @@ impl Paper {
         format!("{}/{}", n + more, 4 - more)
     }
 
-    fn numbers(&self, op: u8, payload: &[u8], widths: &[usize]) -> String {
+    fn numbers(&self, op: u8, payload: &[u8], fields: &[(&str, usize)]) -> String {
         let (mut at, mut out) = (0, Vec::new());
-        for w in widths {
+        for (name, w) in fields {
             let mut bytes = payload[at..at + w].to_vec();
             if self.knob(op, Knob::BigEndian) {
                 bytes.reverse();
             }
-            out.push(format!("{:0n$X}", little(&bytes), n = 2 * w));
+            let v = little(&bytes);
+            out.push(if *name == "item_len" { v.to_string() } else { format!("{v:0n$X}", n = 2 * w) });
             at += w;
         }
         if self.knob(op, Knob::FieldsSwapped) && out.len() > 1 {
             let last = out.len() - 1;
             out.swap(0, last);
         }
-        if out.is_empty() { "-".into() } else { out.join(",") }
+        let end = if self.knob(op, Knob::FieldMisnamed) { "s" } else { "" };
+        fields.iter().zip(out).map(|((name, _), v)| format!(" {name}{end}={v}")).collect()
     }
 
-    fn items(&self, packet: &[u8], kind: Rest, at: usize, end: usize, each: usize) -> String {
+    /// The items in words, and the places of the values of 09's and 11's.
+    fn items(&self, packet: &[u8], kind: Rest, at: usize, end: usize, each: usize) -> (String, String) {
         let mut out = Vec::new();
         let mut i = at;
         while i + each <= end.min(packet.len()) {
             let item = &packet[i..i + each];
             let handle = little(&item[..2]);
             out.push(match kind {
-                Rest::Pairs => format!("{handle:04X}-{:04X}", little(&item[2..4])),
-                Rest::Infos => format!("{handle:04X}:{}", hex(&item[2..])),
-                _ => format!("{handle:04X}@{}..{}", i + 2, i + each),
+                Rest::Pairs => (format!(" item={handle:04X}:{:04X}", little(&item[2..4])), String::new()),
+                Rest::Infos => (format!(" item={handle:04X}:{}", kind_of(&item[2..])), String::new()),
+                _ => (format!(" item={handle:04X}:{}", hex(&item[2..])), format!(" at={}+{}", i + 2, each - 2)),
             });
             i += each;
         }
         if self.knob(packet[0], Knob::LastItemLost) {
             out.pop();
         }
-        format!("[{}]", out.join(","))
+        out.into_iter().unzip()
     }
 
     fn typed(&self, op: u8, start: u16, end: u16, uuid: &[u8]) -> String {
@@ -386,6 +409,11 @@ impl Paper {
     }
 
     fn text(&self, code: u8) -> String {
+        let text = self.text_of(code);
+        format!("{} {}/4 {text}", text.len(), text.len())
+    }
+
+    fn text_of(&self, code: u8) -> String {
         let own = matches!(code, 0x01..=0x13 | 0x80..=0x9F | 0xFC..=0xFF);
         let mut text = match own {
             true => crate::crate_side::text_into(code, 1000).1,
@@ -395,7 +423,7 @@ impl Paper {
         if self.slip(Slip::TextMended) {
             text = text.replace("previousl ", "previously ");
         }
-        format!("{} {}/4 {text}", text.len(), text.len())
+        text
     }
 }
 

@@ -4,7 +4,7 @@ use std::fmt::{self, Display, Formatter};
 
 #[derive(Clone, Debug, PartialEq)]
 pub enum Request {
-    /// A packet: decode it, show its fields, its size and its encoding into every room.
+    /// A packet: decode it, show it in words, its size and its encoding into every room.
     Packet(Vec<u8>),
     /// A typed 08 or 10 with a UUID of any form: its size and its encoding into every room.
     Typed { op: u8, start: u16, end: u16, uuid: Vec<u8> },
@@ -121,19 +121,20 @@ impl Display for Request {
     }
 }
 
-/// What is said of one packet, by the Rust or by document 01. The reply line has the fields in this order, then, by the
-/// rule of document 01 alone, the rooms and the strict test.
+/// What is said of one packet, by the Rust or by document 01; the rooms and the strict test are rules of document 01 alone.
 #[derive(Clone, Debug, PartialEq)]
 pub struct View {
-    pub name: String,
-    pub numbers: String,
-    pub part: String,
+    /// The packet in words, as `explain` has it: SIDE KIND NAME FIELDS.
+    pub words: String,
+    /// ` at=START+LENGTH` for a data field, and for the value of each item of 09 and 11.
+    pub places: String,
+    /// What encoding writes, in HEX.
     pub encoding: String,
     pub size: String,
 }
 
 impl Display for View {
     fn fmt(&self, f: &mut Formatter<'_>) -> fmt::Result {
-        write!(f, "0 {} {} {} {} {}", self.name, self.numbers, self.part, self.encoding, self.size)
+        write!(f, "{} size={} encodes={}{}", self.words, self.size, self.encoding, self.places)
     }
 }

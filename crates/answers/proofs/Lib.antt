@@ -1,9 +1,11 @@
 pub mod CasesHold
+pub mod Computes
 pub mod Demand3
 pub mod Held
 pub mod Links
 pub mod Lists
 pub mod OneHandle
+pub mod Order
 pub mod Pharmacy
 pub mod Plain
 pub mod Premises
@@ -11,6 +13,5 @@ pub mod Searches
 pub mod SentBack
 pub mod Steps
 pub mod Told
-pub mod Walk
 pub mod Witness
 pub mod Writes

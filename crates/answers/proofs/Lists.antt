@@ -1,16 +1,13 @@
 -- Laws of lists and tests. By induction over the lists, and by cases of the tests.
 use Prim.Native.Nat.{ℕ, zero, suc}
-use mathlib.Core.Bool.{Bool, true, false, _||_}
+use mathlib.Core.Bool.{Bool, true, false}
 use mathlib.Core.Path.{_≡_, refl, ap, ap₂}
 use mathlib.Core.List.{List, [], _∷_, map}
 use lib.ListN.{length, take}
 use Rattle.codec.specs.Cases.{pick}
-use Rattle.answers.specs.Auditor.{Each, Starts}
+use Rattle.attributes.specs.Lists.{Each}
+use Rattle.answers.specs.Auditor.{Starts}
 use Rattle.answers.specs.Replies.{keep}
-
-pub neither : (a b : Bool) → (a || b) ≡ false → (a ≡ false) × (b ≡ false)
-neither false b e = (refl, e)
-neither true b e = let z : _≡_ {A = Bool} true false = e in (z, cc)
 
 abbrev pub zipWith : {A B C : Type 0} → (A → B → C) → List A → List B → List C
 zipWith f [] bs = []

@@ -4,7 +4,7 @@
 -- attribute that it may read is equal in length and bytes (`views-show`, `views-need`). By induction over the records; handles rise,
 -- so the value at a handle is the value of the one record that has it.
 use Prim.Native.Nat.{ℕ, _<_}
-use mathlib.Core.Bool.{Bool, true, false, _&&_, _||_, not}
+use mathlib.Core.Bool.{Bool, true, false}
 use mathlib.Core.Path.{_≡_, refl, sym, _∙_, ap, ap₂}
 use mathlib.Core.List.{List, [], _∷_, map}
 use native.Mathlib.Omega.{arith}
@@ -12,9 +12,11 @@ use lib.ListN.{length}
 use lib.Dec.{eqb}
 use borrow.Author.Tests.{eqb-true, eq-eqb, ne-eqb}
 use Rattle.codec.specs.Cases.{pick}
-use Rattle.codec.specs.CasesLaws.{both}
-use Rattle.attributes.proofs.Built.{built}
-use Rattle.attributes.specs.Additions.{layout}
+use Rattle.codec.specs.CasesLaws.{impossible, both}
+use Rattle.attributes.proofs.Built.{built-add}
+use Rattle.attributes.specs.AdditionLaws.{add-full}
+use Rattle.attributes.specs.Additions.{addRefusal}
+use Rattle.attributes.specs.FindLaws.{first-map}
 use Rattle.attributes.specs.Ledger.{holding, item, valueAt}
 use Rattle.attributes.specs.Records.{entries, bare, skeleton}
 use Rattle.attributes.specs.Soundness.{recordOk, slotsEnd, recordsOk}
@@ -22,24 +24,25 @@ use Rattle.attributes.specs.SoundnessLaws.{good, sound-parts}
 use Rattle.attributes.specs.StoreLaws.{grown-slot}
 use Rattle.attributes.specs.declared.Addition.{Addition}
 use Rattle.attributes.specs.declared.Record.{Record}
-use Rattle.answers.specs.View.{View, view, Reading, Value, NoRead}
+use Rattle.attributes.specs.declared.Table.{Table}
+use Rattle.answers.specs.View.{View, view, viewAt, Reading, Value, NoRead, unreadable, mayReadAt}
 use Rattle.answers.specs.Serve.{State, sound, ledger, views, Step, run, hears}
-use Rattle.answers.specs.Demand3.{mayRead, BuiltBy, History, Alike, Twins}
+use Rattle.answers.specs.Demand3.{made, BuiltBy, Event, Adds, Does, afterEvent, additionsAfter, History, started, next, Alike, Twins}
 use Rattle.answers.specs.declared.Link.{Link}
+use Rattle.answers.proofs.Steps.{after-skeleton, after-full}
 use Rattle.answers.proofs.Demand3.{Agree, mayOf, mayReadIn, may-layout, demand3}
 
--- what reading shows, by the marks
-abbrev shown : Bool → Bool → List ℕ → Reading
-shown a c x = pick a (pick c (Value x) (NoRead 0x0F)) (NoRead 0x02)
+-- what reading shows, by whether the link may read
+abbrev shown : Bool → List ℕ → ℕ → Reading
+shown b x code = pick b (Value x) (NoRead code)
 
-shows : (a c : Bool) (x y : List ℕ) → ((a && c) ≡ true → x ≡ y) → shown a c x ≡ shown a c y
-shows true true x y f = ap Value (f refl)
-shows true false x y f = refl
-shows false c x y f = refl
+shows : (b : Bool) (x y : List ℕ) (code : ℕ) → (b ≡ true → x ≡ y) → shown b x code ≡ shown b y code
+shows true x y code f = ap Value (f refl)
+shows false x y code f = refl
 
 -- a handle that the link may read is one of the records', and above those before them
 above : (e : Bool) (h fl ll last at : ℕ) (rs : List Record) → recordsOk fl ll last at rs ≡ true → mayReadIn e h rs ≡ true → last < h
-above e h fl ll last at [] o k = let z : _≡_ {A = ℕ} 0 1 = cc in absurd (omega arith)
+above e h fl ll last at [] o k = impossible (cc)
 above e h fl ll last at (r ∷ rs) o k =
     let g = both (recordOk fl ll last at r) _ o in
     let up = good fl ll last at r (g .0) .rises in
@@ -55,13 +58,11 @@ valueIn (Value x) = x
 valueIn (NoRead c) = []
 
 abbrev seenAt : ℕ → List View → List ℕ
-seenAt h [] = []
-seenAt h (v ∷ vs) = pick (eqb (v .handle) h) (valueIn (v .reading)) (seenAt h vs)
+seenAt h vs = viewAt h (λ (v : View). valueIn (v .reading)) [] vs
 
-value-shown : (a c : Bool) (x : List ℕ) → (a && c) ≡ true → x ≡ valueIn (shown a c x)
-value-shown true true x e = refl
-value-shown true false x e = let z : _≡_ {A = ℕ} 0 1 = cc in absurd (omega arith)
-value-shown false c x e = let z : _≡_ {A = ℕ} 0 1 = cc in absurd (omega arith)
+value-shown : (b : Bool) (x : List ℕ) (code : ℕ) → b ≡ true → x ≡ valueIn (shown b x code)
+value-shown true x code e = refl
+value-shown false x code e = impossible (cc)
 
 module _ (e : Bool) (fl ll : ℕ) where
   -- records without their lengths are as sound in their handles
@@ -69,29 +70,20 @@ module _ (e : Bool) (fl ll : ℕ) where
   above-bare h last at rs o k = above e h fl ll last at rs o (same-may rs ∙ k)
     where
       same-may : (rs : List Record) → mayReadIn e h rs ≡ mayReadIn e h (map bare rs)
-      same-may [] = refl
-      same-may (r ∷ rs) = ap (λ (b : Bool). (eqb (r .handle) h && mayOf e r) || b) (same-may rs)
+      same-may rs = sym (first-map bare (λ (r : Record). r .handle) h (mayOf e) false rs)
 
   module _ (h : ℕ) (fixed live : List ℕ) where
-    seen-value : (last at : ℕ) (rs : List Record) → recordsOk fl ll last at rs ≡ true → mayReadIn e h (map bare rs) ≡ true
+    seen-value : (rs : List Record) → mayReadIn e h (map bare rs) ≡ true
         → valueAt h (map (item fixed live) rs) ≡ seenAt h (map (view e) (map (item fixed live) rs))
-    seen-value last at [] o k = refl
-    seen-value last at (r ∷ rs) o k =
-        let g = both (recordOk fl ll last at r) _ o in
-        by (eqb (r .handle) h) refl (mayOf e r) refl (mayReadIn e h (map bare rs)) refl
-        (above-bare h (r .handle) (slotsEnd at r) rs (g .1))
-        (seen-value (r .handle) (slotsEnd at r) rs (g .1))
+    seen-value [] k = refl
+    seen-value (r ∷ rs) k = by (eqb (r .handle) h) k (seen-value rs)
       where
-        by : (b : Bool) → eqb (r .handle) h ≡ b → (m : Bool) → mayOf e r ≡ m → (t : Bool) → mayReadIn e h (map bare rs) ≡ t
-            → (mayReadIn e h (map bare rs) ≡ true → r .handle < h)
+        by : (b : Bool) → pick b (mayOf e r) (mayReadIn e h (map bare rs)) ≡ true
             → (mayReadIn e h (map bare rs) ≡ true → valueAt h (map (item fixed live) rs) ≡ seenAt h (map (view e) (map (item fixed live) rs)))
             → pick b (item fixed live r .value) (valueAt h (map (item fixed live) rs))
             ≡ pick b (valueIn (view e (item fixed live r) .reading)) (seenAt h (map (view e) (map (item fixed live) rs)))
-        by false q m p t w up f = f (rw q at k)
-        by true q true p t w up f = value-shown (r .readable) (not (r .«read_encrypted») || e) (item fixed live r .value) p
-        by true q false p false w up f =
-            let z : _≡_ {A = Bool} false true = rw (q, p, w) at k in let y : _≡_ {A = ℕ} 0 1 = cc in absurd (omega arith)
-        by true q false p true w up f = absurd (omega (arith, eqb-true (r .handle) h q, up w))
+        by true q f = value-shown (mayOf e r) (item fixed live r .value) (unreadable (item fixed live r)) q
+        by false q f = f q
 
   bare-view : (r : Record) (x : List ℕ) → view e (holding (bare r) x) ≡ view e (holding r x)
   bare-view r x = rw (grown-slot (r .place) 0)
@@ -100,7 +92,7 @@ module _ (e : Bool) (fl ll : ℕ) where
   head-view r t x y q f =
       sym (bare-view r x) ∙ ap (λ (z : Record). view e (holding z x)) q
       ∙ ap (λ (z : Reading). record { handle = t .handle; kind = holding t [] .kind; reading = z; writing = view e (holding (bare t) []) .writing })
-      (shows (t .readable) (not (t .«read_encrypted») || e) x y f) ∙ bare-view t y
+      (shows (mayOf e t) x y (unreadable (holding t [])) f) ∙ bare-view t y
 
   module _ (fixed live fixed′ live′ : List ℕ) where
     -- equal values of what may be read, in two lists of the same records, lengths apart
@@ -128,8 +120,8 @@ module _ (e : Bool) (fl ll : ℕ) where
     same-views : (last at : ℕ) (rs ts : List Record) → recordsOk fl ll last at rs ≡ true → map bare rs ≡ map bare ts → Same rs ts
         → map (view e) (map (item fixed live) rs) ≡ map (view e) (map (item fixed′ live′) ts)
     same-views last at [] [] o k f = refl
-    same-views last at [] (t ∷ ts) o k f = let z : _≡_ {A = ℕ} 0 1 = cc in absurd (omega arith)
-    same-views last at (r ∷ rs) [] o k f = let z : _≡_ {A = ℕ} 0 1 = cc in absurd (omega arith)
+    same-views last at [] (t ∷ ts) o k f = impossible (cc)
+    same-views last at (r ∷ rs) [] o k f = impossible (cc)
     same-views last at (r ∷ rs) (t ∷ ts) o k f =
         let g = both (recordOk fl ll last at r) _ o in
         let head : bare r ≡ bare t = cc in
@@ -147,11 +139,9 @@ module _ (s t : State) (ks : sound s ≡ true) (kt : sound t ≡ true) (records 
   pub views-show : views s ≡ views t → SameValues s t
   unfolding ledger sound
   views-show q h d =
-      seen-value (s .link .encrypted) (length (s .fixed)) (length (s .live)) h (s .fixed) (s .live) 0 0 (entries (s .table))
-      (sound-parts (s .table) (length (s .fixed)) (length (s .live)) ks .records) d
+      seen-value (s .link .encrypted) (length (s .fixed)) (length (s .live)) h (s .fixed) (s .live) (entries (s .table)) d
       ∙ ap (seenAt h) q
-      ∙ sym (seen-value (t .link .encrypted) (length (t .fixed)) (length (t .live)) h (t .fixed) (t .live) 0 0 (entries (t .table))
-      (sound-parts (t .table) (length (t .fixed)) (length (t .live)) kt .records) (rw (records, links) at d))
+      ∙ sym (seen-value (t .link .encrypted) (length (t .fixed)) (length (t .live)) h (t .fixed) (t .live) (entries (t .table)) (rw (records, links) at d))
 
   pub views-need : SameValues s t → views s ≡ views t
   unfolding ledger sound Same
@@ -161,7 +151,7 @@ module _ (s t : State) (ks : sound s ≡ true) (kt : sound t ≡ true) (records 
       ∙ ap (λ (b : Bool). map (view b) (ledger t)) (ap (λ (l : Link). l .encrypted) links)
 
 -- To the relation over views, and back.
-may-built : (e : Bool) (h : ℕ) (adds : List Addition) (s : State) → BuiltBy adds s → mayReadIn e h (skeleton (s .table)) ≡ mayRead e h adds
+may-built : (e : Bool) (h : ℕ) (adds : List Addition) (s : State) → BuiltBy adds s → mayReadIn e h (skeleton (s .table)) ≡ mayReadAt e h (made adds)
 may-built e h adds s b = ap (mayReadIn e h) b ∙ may-layout e h 0 adds
 
 pub alike : (adds : List Addition) (s t : State) → BuiltBy adds s → Agree s t → Alike adds s t
@@ -193,7 +183,19 @@ nothing-leaks adds s t es fs a x =
     let d = demand3 (s .link .encrypted) adds s t refl (a .builtLeft) (agree adds s t a) x in
     (d .0, alike adds (run s es) (run t fs) (d .2) (d .1))
 
--- Its words "built by": a table that came of a new one by additions and own stores was built by the additions that were accepted.
+-- Its words "built by": a table that was added to, served, stored to and added to again was built by the additions that were accepted.
+built-so : {adds : List Addition} {s : State} → History adds s → BuiltBy adds s × (length (s .table .records) ≡ 64)
+unfolding afterEvent additionsAfter
+built-so (started s e) = (ap skeleton e, ap (λ (t : Table). length (t .records)) e)
+built-so (next {adds = adds} {s = s} e h) = one adds s e (built-so h)
+  where
+    one : (adds : List Addition) (s : State) (e : Event) → BuiltBy adds s × (length (s .table .records) ≡ 64)
+        → BuiltBy (additionsAfter adds s e) (afterEvent s e) × (length (afterEvent s e .table .records) ≡ 64)
+    one adds s (Adds a) b = (
+      built-add (s .table) a (length (s .fixed)) (length (s .live)) adds (b .1) (b .0) (addRefusal (s .table) a (length (s .fixed)) (length (s .live))) refl,
+      add-full (s .table) a (b .1) (length (s .fixed)) (length (s .live)),
+    )
+    one adds s (Does e) b = (after-skeleton s e ∙ b .0, after-full s e (b .1))
+
 pub built-by-accepted : (adds : List Addition) (s : State) → History adds s → BuiltBy adds s
-built-by-accepted adds s h =
-    ap skeleton (h .table) ∙ built (s .fixed) (h .live) (length (s .fixed)) (length (h .live)) (h .acts) ∙ ap (layout 0) (h .additions)
+built-by-accepted adds s h = built-so h .0

@@ -1,114 +1,151 @@
--- No premise of demand 3 can be left out: pairs of a till and a sequence that meet all premises but one, and what each of the two
--- hears. By computing; the two answers of each pair differ.
+-- The premises of demand 3, one by one: together they are what it asks for, by induction over the two sequences; and none of them can
+-- be left out, by computing what two runs hear that meet all the others.
 use Prim.Native.Nat.{ℕ}
 use mathlib.Core.Bool.{Bool, true, false}
-use mathlib.Core.Path.{_≡_, refl}
-use mathlib.Core.List.{List, [], _∷_, map}
-use lib.ListN.{replicate}
-use Rattle.codec.specs.declared.Refusal.the-variants.{InsufficientSpace, BadTable}
-use Rattle.uuid.specs.Uuids.{equalTypes, short}
-use Rattle.att.specs.Wire.{rows, shapeOf, decodes, strict, send}
-use Rattle.attributes.specs.Additions.{blank}
-use Rattle.attributes.specs.Soundness.{soundTable}
-use Rattle.attributes.specs.Stores.{ownRefusal, stored, storedLive}
-use Rattle.attributes.specs.declared.Place.the-variants.{Live}
-use Rattle.attributes.specs.declared.Record.{Record}
-use Rattle.answers.specs.Cases.{attribute}
-use Rattle.answers.specs.Replies as r
-use Rattle.answers.specs.Serve.{State, Heard, Bytes, Refused, Step, Send, Store, Encrypt, sound, ledger, store, unlikely, encodedBy, saidBy, serve, ownStore, after, heardOf, run, hears}
-use Rattle.answers.specs.declared.Link.{Link}
+use mathlib.Core.Path.{_≡_, refl, sym, _∙_, ap}
+use mathlib.Core.List.{List, [], _∷_, _++_}
+use lib.Dec.{eqb}
+use Rattle.codec.specs.Cases.{pick, same}
+use Rattle.codec.specs.CasesLaws.{impossible, same-refl}
+use Rattle.codec.specs.Refusals.{refusalNumber}
+use Rattle.attributes.specs.Lists.{Each}
+use Rattle.attributes.specs.declared.Addition.{Addition}
+use Rattle.answers.specs.View.{mayReadAt}
+use Rattle.answers.specs.Demand3.{made, BuiltBy, Alike, Twins, none, packet, stores}
+use Rattle.answers.specs.Premises.{kinds, packets, outputs, handles, readableStores, encryptions, Run, Meets, premises, Needs, leftUnsound, rightUnsound, oneMore, otherValue, encryptedLink, exchangedLink, widerLink, otherOrder, otherPacket, shorterOutput, otherHandle, otherStore, laterEncrypted, needed}
+use Rattle.answers.specs.Serve.{Heard, Bytes, Silent, Refused, hears, Step, Send, Store, Encrypt, run}
+use Rattle.answers.proofs.Computes.{book}
+use Rattle.answers.proofs.Plain.{nothing-leaks}
 
--- one attribute, of type FFF1 and one live byte, readable; on an encrypted link only, where `secret` says so
-abbrev one : Bool → Record
-one secret = record {
-  handle = 1;
-  kind = short 0xFFF1;
-  readable = true;
-  writable = false;
-  «read_encrypted» = secret;
-  «write_encrypted» = false;
-  place = Live 0 1 1;
-}
+-- the sequences
+no-front : {A : Type 0} (xs ys : List A) → xs ++ ys ≡ [] → (xs ≡ []) × (ys ≡ [])
+no-front [] ys e = (refl, e)
+no-front (x ∷ xs) ys e = impossible (cc)
 
-abbrev link : ℕ → Bool → Bool → Link
-link mtu exchanged encrypted = record { mtu = mtu; exchanged = exchanged; encrypted = encrypted }
+module _ (encrypted : Bool) (adds : List Addition) where
+  twins : (es fs : List Step) → kinds es ≡ kinds fs → packets es ≡ packets fs → outputs es ≡ outputs fs → handles es ≡ handles fs
+      → readableStores encrypted adds es ≡ readableStores encrypted adds fs → encryptions es ≡ [] → Twins encrypted adds es fs
+  twins [] [] k p o h r n = none
+  twins [] (Send q u ∷ fs) k p o h r n = impossible (cc)
+  twins [] (Store q u ∷ fs) k p o h r n = impossible (cc)
+  twins [] (Encrypt q ∷ fs) k p o h r n = impossible (cc)
+  twins (Send q u ∷ es) [] k p o h r n = impossible (cc)
+  twins (Send q u ∷ es) (Store x y ∷ fs) k p o h r n = impossible (cc)
+  twins (Send q u ∷ es) (Encrypt x ∷ fs) k p o h r n = impossible (cc)
+  twins (Send q u ∷ es) (Send x y ∷ fs) k p o h r n =
+      let a : q ≡ x = cc in
+      let b : u ≡ y = cc in
+      let d : kinds es ≡ kinds fs = cc in
+      let e : packets es ≡ packets fs = cc in
+      let f : outputs es ≡ outputs fs = cc in
+      rw (← a, ← b) (packet q u (twins es fs d e f h r n))
+  twins (Store q u ∷ es) [] k p o h r n = impossible (cc)
+  twins (Store q u ∷ es) (Send x y ∷ fs) k p o h r n = impossible (cc)
+  twins (Store q u ∷ es) (Encrypt x ∷ fs) k p o h r n = impossible (cc)
+  twins (Store q u ∷ es) (Store x y ∷ fs) k p o h r n =
+      let a : q ≡ x = cc in
+      let d : kinds es ≡ kinds fs = cc in
+      let g : handles es ≡ handles fs = cc in
+      let t = both (mayReadAt encrypted q (made adds)) (rw (← a) at r) in
+      rw (← a) (stores q u y (t .0) (twins es fs d p o g (t .1) n))
+    where
+      both : (b : Bool) → pick b (u ∷ readableStores encrypted adds es) (readableStores encrypted adds es) ≡ pick b (y ∷ readableStores encrypted adds fs) (readableStores encrypted adds fs)
+          → (b ≡ true → u ≡ y) × (readableStores encrypted adds es ≡ readableStores encrypted adds fs)
+      both true e = (λ z. cc, cc)
+      both false e = (λ z. impossible (cc), e)
+  twins (Encrypt q ∷ es) fs k p o h r n = impossible (cc)
 
--- `built` is the length of the live area that the table says it was built for; it is 1
-abbrev holder : Record → ℕ → Link → ℕ → State
-holder r built l value = record {
-  table = record { records = r ∷ replicate 63 blank; count = 1; «fixed_len» = 0; «live_len» = built };
-  link = l;
-  fixed = [];
-  live = value ∷ [];
-}
+-- DEMAND 3 FROM ITS PREMISES: where all of them are met, the link hears the same, and the tills are alike to the end.
+pub all-suffice : (adds : List Addition) (a b : Run) → BuiltBy adds (a .0) → Each (Meets adds a b) premises
+    → (hears (a .0) (a .1) ≡ hears (b .0) (b .1)) × Alike adds (run (a .0) (a .1)) (run (b .0) (b .1))
+all-suffice adds a b built m =
+    let quiet = no-front (encryptions (a .1)) (encryptions (b .1)) (m .1 .1 .1 .1 .1 .1 .1 .1 .1 .1 .0) in
+    nothing-leaks adds (a .0) (b .0) (a .1) (b .1)
+    (record {
+      soundLeft = m .0;
+      soundRight = m .1 .0;
+      builtLeft = built;
+      builtRight = m .1 .1 .0;
+      values = m .1 .1 .1 .0;
+      links = m .1 .1 .1 .1 .0;
+    })
+    (twins (a .0 .link .encrypted) adds (a .1) (b .1) (m .1 .1 .1 .1 .1 .0) (m .1 .1 .1 .1 .1 .1 .0) (m .1 .1 .1 .1 .1 .1 .1 .0)
+    (m .1 .1 .1 .1 .1 .1 .1 .1 .0) (m .1 .1 .1 .1 .1 .1 .1 .1 .1 .0) (quiet .0))
 
-abbrev plain : ℕ → State
-plain value = holder (one false) 1 (link 23 false false) value
+-- what the premise on readable values says, for a symbolic handle
+only-first : (b : Bool) (x y : List ℕ) → pick b true false ≡ true → pick b x [] ≡ pick b x y
+only-first true x y e = refl
+only-first false x y e = impossible (cc)
 
-abbrev secret : ℕ → State
-secret value = holder (one true) 1 (link 23 false false) value
+never : {A : Type 0} (b : Bool) → pick b false false ≡ true → A
+never true e = impossible (cc)
+never false e = impossible (cc)
 
-abbrev reading : Step
-reading = Send (0x0A ∷ 0x01 ∷ 0x00 ∷ []) 23
+-- what is heard, as numbers: where these differ, what is heard does
+flat : List Heard → List ℕ
+flat [] = []
+flat (Bytes b ∷ hs) = 0 ∷ (b ++ flat hs)
+flat (Silent ∷ hs) = 1 ∷ flat hs
+flat (Refused why ∷ hs) = 2 ∷ refusalNumber why ∷ flat hs
 
-abbrev Run : Type 0
-Run = State × List Step
+different : (x y : List Heard) → same (flat x) (flat y) ≡ false → x ≡ y → ⊥
+different x y n e =
+    let z : _≡_ {A = Bool} true false = sym (same-refl (flat y)) ∙ ap (λ (l : List Heard). same (flat l) (flat y)) (sym e) ∙ n in
+    impossible (cc)
 
-abbrev needed : List ((Run × Run) × (List Heard × List Heard))
-needed =
-    -- readable values are equal: 41 and 42
-    ((((plain 0x41, reading ∷ [])), (plain 0x42, reading ∷ [])), (Bytes (0x0B ∷ 0x41 ∷ []) ∷ [], Bytes (0x0B ∷ 0x42 ∷ []) ∷ []))
-    -- own stores to what the link may read are equal
-    ∷ (
-      ((plain 0x41, Store 1 (0x43 ∷ []) ∷ reading ∷ []), (plain 0x41, Store 1 (0x44 ∷ []) ∷ reading ∷ [])),
-      (Bytes (0x0B ∷ 0x43 ∷ []) ∷ [], Bytes (0x0B ∷ 0x44 ∷ []) ∷ []),
-    )
-    -- link records are equal: encryption, the mark of the exchange, the MTU
-    ∷ (
-      ((holder (one true) 1 (link 23 false true) 0x41, reading ∷ []), (secret 0x41, reading ∷ [])),
-      (Bytes (0x0B ∷ 0x41 ∷ []) ∷ [], Bytes (0x01 ∷ 0x0A ∷ 0x01 ∷ 0x00 ∷ 0x0F ∷ []) ∷ []),
-    )
-    ∷ (
-      ((holder (one false) 1 (link 23 true false) 0x41, Send (0x02 ∷ 0x17 ∷ 0x00 ∷ []) 23 ∷ []), (plain 0x41, Send (0x02 ∷ 0x17 ∷ 0x00 ∷ []) 23 ∷ [])),
-      (Bytes (0x01 ∷ 0x02 ∷ 0x00 ∷ 0x00 ∷ 0x06 ∷ []) ∷ [], Bytes (0x03 ∷ 0xF7 ∷ 0x00 ∷ []) ∷ []),
-    )
-    ∷ (
-      ((holder (one false) 1 (link 24 false false) 0x41, reading ∷ []), (plain 0x41, reading ∷ [])),
-      (Refused InsufficientSpace ∷ [], Bytes (0x0B ∷ 0x41 ∷ []) ∷ []),
-    )
-    -- both tables are sound: the first one says that it was built for two live bytes
-    ∷ (
-      ((holder (one false) 2 (link 23 false false) 0x41, reading ∷ []), (plain 0x41, reading ∷ [])),
-      (Refused BadTable ∷ [], Bytes (0x0B ∷ 0x41 ∷ []) ∷ []),
-    )
-    -- the same additions: handle 2 in the first one; no attribute that both have differs
-    ∷ (
-      ((holder (attribute 2 0xFFF1 true false (Live 0 1 1)) 1 (link 23 false false) 0x41, reading ∷ []), (plain 0x41, reading ∷ [])),
-      (Bytes (0x01 ∷ 0x0A ∷ 0x01 ∷ 0x00 ∷ 0x01 ∷ []) ∷ [], Bytes (0x0B ∷ 0x41 ∷ []) ∷ []),
-    )
-    -- outputs of equal length
-    ∷ (
-      ((plain 0x41, Send (0x0A ∷ 0x01 ∷ 0x00 ∷ []) 22 ∷ []), (plain 0x41, reading ∷ [])),
-      (Refused InsufficientSpace ∷ [], Bytes (0x0B ∷ 0x41 ∷ []) ∷ []),
-    )
-    -- the same packets
-    ∷ (
-      ((plain 0x41, Send (0x0A ∷ 0x02 ∷ 0x00 ∷ []) 23 ∷ []), (plain 0x41, reading ∷ [])),
-      (Bytes (0x01 ∷ 0x0A ∷ 0x02 ∷ 0x00 ∷ 0x01 ∷ []) ∷ [], Bytes (0x0B ∷ 0x41 ∷ []) ∷ []),
-    )
-    -- stores to the same handles
-    ∷ (
-      ((plain 0x41, Store 2 (0x43 ∷ []) ∷ reading ∷ []), (plain 0x41, Store 1 (0x43 ∷ []) ∷ reading ∷ [])),
-      (Bytes (0x0B ∷ 0x41 ∷ []) ∷ [], Bytes (0x0B ∷ 0x43 ∷ []) ∷ []),
-    )
-    -- encryption does not change, though it be in both runs: what differed unread is read
-    ∷ (
-      ((secret 0x41, Encrypt true ∷ reading ∷ []), (secret 0x42, Encrypt true ∷ reading ∷ [])),
-      (Bytes (0x0B ∷ 0x41 ∷ []) ∷ [], Bytes (0x0B ∷ 0x42 ∷ []) ∷ []),
-    )
-    ∷ []
+-- Each pair: the additions built the left table, the other premises in their order, and a difference in what is heard.
+left-unsound : Needs leftUnsound
+unfolding book flat
+left-unsound = (refl, (refl, (refl, (λ h d. refl, (refl, (refl, (refl, (refl, (refl, (refl, (refl, tt)))))))))), λ e. different _ _ refl e)
 
-pub premises-needed : map (λ (e : (Run × Run) × (List Heard × List Heard)). (hears (e .0 .0 .0) (e .0 .0 .1), hears (e .0 .1 .0) (e .0 .1 .1))) needed
-    ≡ map (λ (e : (Run × Run) × (List Heard × List Heard)). e .1) needed
-unfolding equalTypes rows shapeOf decodes strict send soundTable ownRefusal stored storedLive sound ledger store unlikely encodedBy saidBy serve ownStore after heardOf run hears r.exchange r.at r.reading r.read r.blob r.writing r.write r.moreBy r.more r.searchBy r.search r.within r.rangeOk r.listing r.searched r.groups r.lastOf r.groupEnd r.info r.infos r.findInformation r.holds r.endOf r.pair r.pairs r.findByTypeValue r.valued r.typed r.values r.readByType r.grouped r.groupValues r.readByGroupType r.served r.rowReply r.request r.silent r.command r.replyTo r.linkOk r.reply
-premises-needed = refl
+right-unsound : Needs rightUnsound
+unfolding book flat
+right-unsound = (refl, (refl, (refl, (λ h d. refl, (refl, (refl, (refl, (refl, (refl, (refl, (refl, tt)))))))))), λ e. different _ _ refl e)
+
+one-more : Needs oneMore
+unfolding book flat
+one-more = (refl, (refl, (refl, (λ h d. only-first (eqb 1 h) (0x41 ∷ []) (pick (eqb 2 h) (0x42 ∷ []) []) d, (refl, (refl, (refl, (refl, (refl, (refl, (refl, tt)))))))))), λ e. different _ _ refl e)
+
+other-value : Needs otherValue
+unfolding book flat
+other-value = (refl, (refl, (refl, (refl, (refl, (refl, (refl, (refl, (refl, (refl, (refl, tt)))))))))), λ e. different _ _ refl e)
+
+encrypted-link : Needs encryptedLink
+unfolding book flat
+encrypted-link = (refl, (refl, (refl, (refl, (λ h d. refl, (refl, (refl, (refl, (refl, (refl, (refl, tt)))))))))), λ e. different _ _ refl e)
+
+exchanged-link : Needs exchangedLink
+unfolding book flat
+exchanged-link = (refl, (refl, (refl, (refl, (λ h d. refl, (refl, (refl, (refl, (refl, (refl, (refl, tt)))))))))), λ e. different _ _ refl e)
+
+wider-link : Needs widerLink
+unfolding book flat
+wider-link = (refl, (refl, (refl, (refl, (λ h d. refl, (refl, (refl, (refl, (refl, (refl, (refl, tt)))))))))), λ e. different _ _ refl e)
+
+other-order : Needs otherOrder
+unfolding book flat
+other-order = (refl, (refl, (refl, (refl, (λ h d. refl, (refl, (refl, (refl, (refl, (refl, (refl, tt)))))))))), λ e. different _ _ refl e)
+
+other-packet : Needs otherPacket
+unfolding book flat
+other-packet = (refl, (refl, (refl, (refl, (λ h d. refl, (refl, (refl, (refl, (refl, (refl, (refl, tt)))))))))), λ e. different _ _ refl e)
+
+shorter-output : Needs shorterOutput
+unfolding book flat
+shorter-output = (refl, (refl, (refl, (refl, (λ h d. refl, (refl, (refl, (refl, (refl, (refl, (refl, tt)))))))))), λ e. different _ _ refl e)
+
+other-handle : Needs otherHandle
+unfolding book flat
+other-handle = (refl, (refl, (refl, (refl, (λ h d. refl, (refl, (refl, (refl, (refl, (refl, (refl, tt)))))))))), λ e. different _ _ refl e)
+
+other-store : Needs otherStore
+unfolding book flat
+other-store = (refl, (refl, (refl, (refl, (λ h d. refl, (refl, (refl, (refl, (refl, (refl, (refl, tt)))))))))), λ e. different _ _ refl e)
+
+later-encrypted : Needs laterEncrypted
+unfolding book flat
+later-encrypted = (refl, (refl, (refl, (refl, (λ h d. never (eqb 1 h) d, (refl, (refl, (refl, (refl, (refl, (refl, tt)))))))))), λ e. different _ _ refl e)
+
+-- AND NONE OF THEM CAN BE LEFT OUT: two runs for each, which meet all the others and are heard to differ.
+pub premises-needed : Each Needs needed
+premises-needed = (left-unsound, (right-unsound, (one-more, (other-value, (encrypted-link, (exchanged-link, (wider-link, (other-order, (other-packet, (shorter-output, (other-handle, (other-store, (later-encrypted, tt)))))))))))))

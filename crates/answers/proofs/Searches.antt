@@ -12,8 +12,10 @@ use Rattle.codec.specs.CasesLaws.{both}
 use Rattle.att.proofs.NoShift.{AllOf}
 use Rattle.attributes.specs.Ledger.{Item}
 use Rattle.answers.specs.View.{View, view}
-use Rattle.answers.specs.Replies.{Part, Skip, Take, Fail, Found, None, Failed, Listed, moreBy, more, searchBy, search, keep, within}
-use Rattle.answers.specs.Auditor.{Each, Starts, between}
+use Rattle.answers.specs.Replies.{Part, Skip, Take, Fail, Found, None, Failed, Listed, more, search, keep, inRange}
+use Rattle.attributes.specs.Lists.{Each}
+use Rattle.answers.specs.Auditor.{Starts, between}
+use Rattle.answers.proofs.Lists.{each-map}
 
 -- a property of what was listed, where something was
 abbrev pub OnList : (ℕ → List (List ℕ) → Type 0) → Found → Type 0
@@ -28,85 +30,83 @@ on-list P x n is a e = rw e at a
 abbrev pub Sized : (ℕ → Type 0) → Part → Type 0
 Sized B Skip = Unit
 Sized B (Take b) = B (length b)
-Sized B (Fail code) = Unit
+Sized B (Fail h code) = Unit
 
-more-sizes : (f : View → Part) (n : ℕ) (vs : List View) (room : ℕ) → AllOf n (more f n vs room)
-unfolding more moreBy
-more-sizes f n [] room = tt
-more-sizes f n (v ∷ vs) room = by (f v) (more-sizes f n vs)
+more-sizes : (n room : ℕ) (ps : List Part) → AllOf n (more n room ps)
+unfolding more
+more-sizes n room [] = tt
+more-sizes n room (Skip ∷ ps) = more-sizes n room ps
+more-sizes n room (Take b ∷ ps) = fit (eqb (length b) n && leb n room) refl (more-sizes n (room - n) ps)
   where
-    fit : (b : List ℕ) (c : Bool) → (eqb (length b) n && leb n room) ≡ c → ((r : ℕ) → AllOf n (more f n vs r)) → AllOf n (pick c (b ∷ more f n vs (room - n)) [])
-    fit b true e h = (eqb-true (length b) n (both (eqb (length b) n) _ e .0), h (room - n))
-    fit b false e h = tt
+    fit : (c : Bool) → (eqb (length b) n && leb n room) ≡ c → AllOf n (more n (room - n) ps) → AllOf n (pick c (b ∷ more n (room - n) ps) [])
+    fit true e h = (eqb-true (length b) n (both (eqb (length b) n) _ e .0), h)
+    fit false e h = tt
+more-sizes n room (Fail h code ∷ ps) = tt
 
-    by : (p : Part) → ((r : ℕ) → AllOf n (more f n vs r)) → AllOf n (moreBy p n room (more f n vs))
-    by Skip h = h room
-    by (Take b) h = fit b (eqb (length b) n && leb n room) refl h
-    by (Fail code) h = tt
+found-sizes : (B : ℕ → Type 0) (room : ℕ) (ps : List Part) → Each (Sized B) ps → OnList (λ n is. B n × AllOf n is) (search room ps)
+unfolding search
+found-sizes B room [] a = tt
+found-sizes B room (Skip ∷ ps) a = found-sizes B room ps (a .1)
+found-sizes B room (Take b ∷ ps) a = (a .0, (refl, more-sizes (length b) (room - length b) ps))
+found-sizes B room (Fail h code ∷ ps) a = tt
 
 pub search-sizes : (B : ℕ → Type 0) (f : View → Part) (room : ℕ) (vs : List View) → Each (λ v. Sized B (f v)) vs
-    → OnList (λ n is. B n × AllOf n is) (search f room vs)
-unfolding search searchBy
-search-sizes B f room [] a = tt
-search-sizes B f room (v ∷ vs) a = by (f v) (a .0) (search-sizes B f room vs (a .1))
-  where
-    by : (p : Part) → Sized B p → OnList (λ n is. B n × AllOf n is) (search f room vs)
-        → OnList (λ n is. B n × AllOf n is) (searchBy p f room (v .handle) vs (search f room vs))
-    by Skip s h = h
-    by (Take b) s h = (s, (refl, more-sizes f (length b) vs (room - length b)))
-    by (Fail code) s h = tt
+    → OnList (λ n is. B n × AllOf n is) (search room (map f vs))
+search-sizes B f room vs a = found-sizes B room (map f vs) (each-map (Sized B) f vs a)
 
 -- What an attribute gives: nothing where it does not match; its item, or a failure, where it does.
 abbrev pub Given : Bool → List ℕ → Part → Type 0
 Given true b Skip = ⊥
 Given true b (Take c) = c ≡ b
-Given true b (Fail code) = Unit
+Given true b (Fail h code) = Unit
 Given false b Skip = Unit
 Given false b (Take c) = ⊥
-Given false b (Fail code) = ⊥
+Given false b (Fail h code) = ⊥
 
 pub given-if : (c : Bool) (b : List ℕ) (p : Part) → (c ≡ true → Given true b p) → Given c b (pick c p Skip)
 given-if true b p g = g refl
 given-if false b p g = tt
 
 module _ (e : Bool) (f : View → Part) (match : Item → Bool) (g : Item → List ℕ) (ok : (i : Item) → Given (match i) (g i) (f (view e i))) where
-  more-starts : (n : ℕ) (is : List Item) (room : ℕ) → Starts (more f n (map (view e) is) room) (map g (keep match is))
-  unfolding more moreBy
-  more-starts n [] room = refl
-  more-starts n (i ∷ is) room = by (match i) (f (view e i)) (ok i) (more-starts n is)
+  abbrev given : List Item → List Part
+  given is = map f (map (view e) is)
+
+  more-starts : (n room : ℕ) (is : List Item) → Starts (more n room (given is)) (map g (keep match is))
+  unfolding more
+  more-starts n room [] = refl
+  more-starts n room (i ∷ is) = by (match i) (f (view e i)) (ok i) (λ r. more-starts n r is)
     where
-      fit : (c : List ℕ) (d : Bool) → c ≡ g i → ((r : ℕ) → Starts (more f n (map (view e) is) r) (map g (keep match is)))
-          → Starts (pick d (c ∷ more f n (map (view e) is) (room - n)) []) (g i ∷ map g (keep match is))
-      fit c true x h = ap₂ (λ (y : List ℕ) (l : List (List ℕ)). y ∷ l) x (h (room - n))
+      fit : (c : List ℕ) (d : Bool) → c ≡ g i → Starts (more n (room - n) (given is)) (map g (keep match is))
+          → Starts (pick d (c ∷ more n (room - n) (given is)) []) (g i ∷ map g (keep match is))
+      fit c true x h = ap₂ (λ (y : List ℕ) (l : List (List ℕ)). y ∷ l) x h
       fit c false x h = refl
 
-      by : (b : Bool) (p : Part) → Given b (g i) p → ((r : ℕ) → Starts (more f n (map (view e) is) r) (map g (keep match is)))
-          → Starts (moreBy p n room (more f n (map (view e) is))) (map g (pick b (i ∷ keep match is) (keep match is)))
+      by : (b : Bool) (p : Part) → Given b (g i) p → ((r : ℕ) → Starts (more n r (given is)) (map g (keep match is)))
+          → Starts (more n room (p ∷ given is)) (map g (pick b (i ∷ keep match is) (keep match is)))
       by true Skip x h = absurd x
-      by true (Take c) x h = fit c (eqb (length c) n && leb n room) x h
-      by true (Fail code) x h = refl
+      by true (Take c) x h = fit c (eqb (length c) n && leb n room) x (h (room - n))
+      by true (Fail a code) x h = refl
       by false Skip x h = h room
       by false (Take c) x h = absurd x
-      by false (Fail code) x h = absurd x
+      by false (Fail a code) x h = absurd x
 
-  pub search-starts : (room : ℕ) (is : List Item) → OnList (λ n xs. Starts xs (map g (keep match is))) (search f room (map (view e) is))
-  unfolding search searchBy
+  pub search-starts : (room : ℕ) (is : List Item) → OnList (λ n xs. Starts xs (map g (keep match is))) (search room (given is))
+  unfolding search
   search-starts room [] = tt
   search-starts room (i ∷ is) = by (match i) (f (view e i)) (ok i) (search-starts room is)
     where
-      by : (b : Bool) (p : Part) → Given b (g i) p → OnList (λ n xs. Starts xs (map g (keep match is))) (search f room (map (view e) is))
-          → OnList (λ n xs. Starts xs (map g (pick b (i ∷ keep match is) (keep match is))))
-          (searchBy p f room (i .handle) (map (view e) is) (search f room (map (view e) is)))
+      by : (b : Bool) (p : Part) → Given b (g i) p → OnList (λ n xs. Starts xs (map g (keep match is))) (search room (given is))
+          → OnList (λ n xs. Starts xs (map g (pick b (i ∷ keep match is) (keep match is)))) (search room (p ∷ given is))
       by true Skip x h = absurd x
-      by true (Take c) x h = ap₂ (λ (y : List ℕ) (l : List (List ℕ)). y ∷ l) x (more-starts (length c) is (room - length c))
-      by true (Fail code) x h = tt
+      by true (Take c) x h = ap₂ (λ (y : List ℕ) (l : List (List ℕ)). y ∷ l) x (more-starts (length c) (room - length c) is)
+      by true (Fail a code) x h = tt
       by false Skip x h = h
       by false (Take c) x h = absurd x
-      by false (Fail code) x h = absurd x
+      by false (Fail a code) x h = absurd x
 
 -- the attributes of a range, seen by the link
-pub within-view : (e : Bool) (from to : ℕ) (is : List Item) → within from to (map (view e) is) ≡ map (view e) (between from to is)
-unfolding within
+pub within-view : (e : Bool) (from to : ℕ) (is : List Item) → inRange from to (map (view e) is) ≡ map (view e) (between from to is)
+unfolding inRange
 within-view e from to [] = refl
 within-view e from to (i ∷ is) = by (leb from (i .handle) && leb (i .handle) to) (within-view e from to is)
   where

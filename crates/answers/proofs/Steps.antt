@@ -1,22 +1,19 @@
 -- A step of a sound state is what it asks for; and it keeps soundness, the records lengths apart, and, unless it is a change of
--- encryption, the encryption. The laws of the table say what a store does; serving is taken apart by what the encoder says.
+-- encryption, the encryption. The laws of the table say what a store does.
 use Prim.Native.Nat.{ℕ}
-use mathlib.Core.Bool.{Bool, true, false}
+use mathlib.Core.Bool.{true}
 use mathlib.Core.Path.{_≡_, refl, _∙_, ap, ap₂}
 use mathlib.Core.List.{List, [], _∷_, map}
 use lib.ListN.{length}
-use lib.Dec.{leb}
-use Rattle.codec.specs.Cases.{pick}
-use Rattle.codec.specs.declared.Refusal.the-variants.{BadTable}
-use Rattle.att.specs.Wire.{Coded, Sent, NotSent, send, first}
-use Rattle.attributes.specs.ListLaws.{picked}
+use Rattle.attributes.proofs.Built.{stored-skeleton, stored-full}
+use Rattle.attributes.specs.ListLaws.{length-mapFirst}
 use Rattle.attributes.specs.Records.{skeleton}
 use Rattle.attributes.specs.StoreLaws as laws
-use Rattle.attributes.specs.Stores.{put}
+use Rattle.attributes.specs.Stores.{put, relength}
 use Rattle.attributes.specs.declared.Table.{Table}
-use Rattle.answers.specs.Replies.{Says, Packet, Silence, Refuses, Effect, Nothing, Stores, Agrees, reply}
-use Rattle.answers.specs.Serve.{State, sound, ledger, views, store, changed, Heard, Bytes, Refused, Served, serving, unlikely, encodedBy, saidBy, serve, ownStore, Step, Send, Store, Encrypt, after, run}
-use Rattle.answers.specs.Auditor.{codedEffect, saidEffect, asked}
+use Rattle.answers.specs.Replies.{Effect, Nothing, Stores, Agrees}
+use Rattle.answers.specs.Serve.{State, sound, ledger, store, changed, asks, serve, ownStore, Step, Send, Store, Encrypt, after, run}
+use Rattle.answers.specs.declared.Link.{Link}
 
 -- A store, of states.
 module _ (s : State) (h : ℕ) (v : List ℕ) where
@@ -43,52 +40,13 @@ module _ (s : State) (h : ℕ) (v : List ℕ) where
       let o = laws.own-store (s .table) h v (s .fixed) (s .live) k in
       ap₂ {C = State} (λ (t : Table) (l : List ℕ). record { table = t; link = s .link; fixed = s .fixed; live = l }) (o .1) (o .2)
 
--- What is said depends on the reply alone; and the state after it is what the reply asks for.
-module _ (op room : ℕ) (e : Effect) where
-  pub said-heard : (x : Says) (s t : State) → saidBy x op room e s .heard ≡ saidBy x op room e t .heard
-  unfolding saidBy encodedBy
-  said-heard (Packet m) s t = by (send m)
-    where
-      fit : (b : Bool) (x y : Heard) → pick b (serving x (changed s e)) (serving y s) .heard ≡ pick b (serving x (changed t e)) (serving y t) .heard
-      fit true x y = refl
-      fit false x y = refl
+-- The state after a packet is what it asks for, and after an own store in a sound state the store.
+pub send-is : (s : State) (p : List ℕ) (room : ℕ) → after s (Send p room) ≡ changed s (asks s p room)
+unfolding after serve
+send-is s p room = refl
 
-      by : (c : Coded) → encodedBy c op room e s .heard ≡ encodedBy c op room e t .heard
-      by (Sent b) = fit (leb (length b) room) (Bytes b) (Bytes (unlikely op))
-      by NotSent = refl
-  said-heard Silence s t = refl
-  said-heard (Refuses r) s t = refl
-
-  pub said-state : (x : Says) (s : State) → saidBy x op room e s .state ≡ changed s (saidEffect x room e)
-  unfolding saidBy encodedBy
-  said-state (Packet m) s = by (send m)
-    where
-      fit : (b : Bool) (x y : Heard) → pick b (serving x (changed s e)) (serving y s) .state ≡ changed s (pick b e Nothing)
-      fit true x y = refl
-      fit false x y = refl
-
-      by : (c : Coded) → encodedBy c op room e s .state ≡ changed s (codedEffect c room e)
-      by (Sent b) = fit (leb (length b) room) (Bytes b) (Bytes (unlikely op))
-      by NotSent = refl
-  said-state Silence s = refl
-  said-state (Refuses r) s = refl
-
-module _ (s : State) (p : List ℕ) (room : ℕ) (k : sound s ≡ true) where
-  pub serve-is : serve s p room
-      ≡ saidBy (reply (views s) (s .link) p room .says) (first p) room (reply (views s) (s .link) p room .effect) s
-  unfolding serve
-  serve-is =
-      let r = reply (views s) (s .link) p room in
-      picked (sound s) (saidBy (r .says) (first p) room (r .effect) s) (serving (Refused BadTable) s) k
-
-  pub send-is : after s (Send p room) ≡ changed s (asked s (Send p room))
-  unfolding after asked
-  send-is =
-      let r = reply (views s) (s .link) p room in
-      ap (λ (x : Served). x .state) serve-is ∙ said-state (first p) room (r .effect) (r .says) s
-
-pub store-is : (s : State) (h : ℕ) (v : List ℕ) → sound s ≡ true → after s (Store h v) ≡ changed s (asked s (Store h v))
-unfolding after asked
+pub store-is : (s : State) (h : ℕ) (v : List ℕ) → sound s ≡ true → after s (Store h v) ≡ store s h v
+unfolding after
 store-is s h v k = own-is s h v k
 
 -- what an effect keeps
@@ -112,28 +70,41 @@ kept-encrypted s (Agrees mtu) = refl
 -- what a step keeps
 pub after-sound : (s : State) (e : Step) → sound s ≡ true → sound (after s e) ≡ true
 unfolding sound after
-after-sound s (Send p room) k = ap sound (send-is s p room k) ∙ kept-sound s (asked s (Send p room)) k
-after-sound s (Store h v) k = ap sound (store-is s h v k) ∙ kept-sound s (asked s (Store h v)) k
+after-sound s (Send p room) k = ap sound (send-is s p room) ∙ kept-sound s (asks s p room) k
+after-sound s (Store h v) k = ap sound (store-is s h v k) ∙ store-sound s h v k
 after-sound s (Encrypt e) k = k
 
-pub after-skeleton : (s : State) (e : Step) → sound s ≡ true → skeleton (after s e .table) ≡ skeleton (s .table)
-unfolding after
-after-skeleton s (Send p room) k = ap (λ (x : State). skeleton (x .table)) (send-is s p room k) ∙ kept-skeleton s (asked s (Send p room))
-after-skeleton s (Store h v) k = ap (λ (x : State). skeleton (x .table)) (store-is s h v k) ∙ kept-skeleton s (asked s (Store h v))
-after-skeleton s (Encrypt e) k = refl
+pub after-skeleton : (s : State) (e : Step) → skeleton (after s e .table) ≡ skeleton (s .table)
+unfolding after ownStore
+after-skeleton s (Send p room) = ap (λ (x : State). skeleton (x .table)) (send-is s p room) ∙ kept-skeleton s (asks s p room)
+after-skeleton s (Store h v) = stored-skeleton (s .table) h v (s .fixed) (s .live)
+after-skeleton s (Encrypt e) = refl
 
-pub sent-encrypted : (s : State) (p : List ℕ) (room : ℕ) → sound s ≡ true → after s (Send p room) .link .encrypted ≡ s .link .encrypted
-sent-encrypted s p room k = ap (λ (x : State). x .link .encrypted) (send-is s p room k) ∙ kept-encrypted s (asked s (Send p room))
+-- the array has its length
+kept-full : (s : State) (x : Effect) → length (changed s x .table .records) ≡ length (s .table .records)
+unfolding store
+kept-full s Nothing = refl
+kept-full s (Stores h v) = length-mapFirst (s .table .count) (relength h (length v)) (s .table .records)
+kept-full s (Agrees mtu) = refl
+
+pub after-full : (s : State) (e : Step) → length (s .table .records) ≡ 64 → length (after s e .table .records) ≡ 64
+unfolding after ownStore
+after-full s (Send p room) f = ap (λ (x : State). length (x .table .records)) (send-is s p room) ∙ kept-full s (asks s p room) ∙ f
+after-full s (Store h v) f = stored-full (s .table) h v (s .fixed) (s .live) f
+after-full s (Encrypt e) f = f
+
+pub sent-encrypted : (s : State) (p : List ℕ) (room : ℕ) → after s (Send p room) .link .encrypted ≡ s .link .encrypted
+sent-encrypted s p room = ap (λ (x : State). x .link .encrypted) (send-is s p room) ∙ kept-encrypted s (asks s p room)
 
 pub stored-encrypted : (s : State) (h : ℕ) (v : List ℕ) → sound s ≡ true → after s (Store h v) .link .encrypted ≡ s .link .encrypted
-stored-encrypted s h v k = ap (λ (x : State). x .link .encrypted) (store-is s h v k) ∙ kept-encrypted s (asked s (Store h v))
+stored-encrypted s h v k = ap (λ (x : State). x .link .encrypted) (store-is s h v k) ∙ ap (λ (l : Link). l .encrypted) (store-link s h v)
 
 pub run-sound : (s : State) (es : List Step) → sound s ≡ true → sound (run s es) ≡ true
 unfolding run
 run-sound s [] k = k
 run-sound s (e ∷ es) k = run-sound (after s e) es (after-sound s e k)
 
-pub run-skeleton : (s : State) (es : List Step) → sound s ≡ true → skeleton (run s es .table) ≡ skeleton (s .table)
+pub run-skeleton : (s : State) (es : List Step) → skeleton (run s es .table) ≡ skeleton (s .table)
 unfolding run
-run-skeleton s [] k = refl
-run-skeleton s (e ∷ es) k = run-skeleton (after s e) es (after-sound s e k) ∙ after-skeleton s e k
+run-skeleton s [] = refl
+run-skeleton s (e ∷ es) = run-skeleton (after s e) es ∙ after-skeleton s e

@@ -1,19 +1,16 @@
 -- The auditor's sentence, what is told: what a client takes from an answer is what is held at that very handle, and a list has its
 -- items in the order of the handles, each with its own value. By the walk over all replies. A sound table has each handle once, so
 -- the value at a handle is that of the one attribute that has it; what was sent is read back as it was meant.
-use Prim.Native.Nat.{ℕ, _+_, _-_, _≤_, _<_, min, max}
-use mathlib.Core.Bool.{Bool, true, false, _&&_, _||_, not}
+use Prim.Native.Nat.{ℕ, _+_, _-_, _≤_, _<_}
+use mathlib.Core.Bool.{Bool, true, false, _&&_, not}
 use mathlib.Core.Path.{_≡_, refl, sym, _∙_, ap}
 use mathlib.Core.List.{List, [], _∷_, _++_, map}
 use native.Mathlib.Omega.{arith}
 use lib.ListN.{length, take, drop, length-append, length-take}
-use lib.Seq.{take-length}
 use lib.Dec.{leb, eqb}
 use borrow.Author.Tests.{leb-true, eq-eqb, ne-eqb}
 use Rattle.codec.specs.Cases.{pick, lookup}
-use Rattle.codec.specs.CasesLaws.{both, same-equal}
-use Rattle.codec.specs.declared.Refusal.{Refusal}
-use Rattle.codec.specs.declared.Refusal.the-variants.{BadLink, InsufficientSpace}
+use Rattle.codec.specs.CasesLaws.{impossible, both, same-equal}
 use Rattle.primitives.specs.Numbers.{bytesOf, numberOf, numberAt}
 use Rattle.primitives.specs.NumbersLaws.{number-bytes}
 use Rattle.uuid.specs.Uuids.{own, equalTypes}
@@ -25,22 +22,25 @@ use Rattle.att.proofs.NoShift.{AllOf}
 use Rattle.att.specs.Items.{itemsOf, joined}
 use Rattle.att.specs.Proper.{Fields}
 use Rattle.att.specs.Wire as wire
+use Rattle.attributes.specs.AdditionLaws.{each-passed}
 use Rattle.attributes.specs.Ledger.{Item, item, valueAt}
 use Rattle.attributes.specs.Records.{entries, bare}
 use Rattle.attributes.specs.Soundness.{typeOk, recordOk, slotsEnd, recordsOk}
 use Rattle.attributes.specs.SoundnessLaws.{good, sound-parts}
+use Rattle.attributes.specs.declared.Outcome.{Outcome}
+use Rattle.attributes.specs.declared.Outcome.the-variants.{Accepted, Refused}
 use Rattle.attributes.specs.declared.Record.{Record}
-use Rattle.answers.specs.View.{View, view, Reading, Value, NoRead, Writing, UpTo, NoWrite, readingOf}
-use Rattle.answers.specs.Replies.{Packet, Silence, Refuses, Effect, Nothing, Stores, Agrees, Reply, Part, Skip, Take, Listed, doing, only, errorPacket, error, exchange, writing, at, write, search, keep, within, rangeOk, searched, groups, outlines, groupEnd, endOf, info, infos, findInformation, holds, pair, pairs, findByTypeValue, valued, typed, values, read, blob, readByType, grouped, groupValues, readByGroupType, nth, linkOk, replyTo, reply}
-use Rattle.answers.specs.Serve.{State, sound, ledger, views, changed, Bytes, serving, unlikely, encodedBy, saidBy, serve, Step, run}
-use Rattle.answers.specs.Auditor.{accepted, lastFor, Told, tells, TrueOf, toldBy, readHeard, told, itemsIn, Starts, between, infoItem, pairItem, valueItem, groupItem, holdsValue, dues, due, Each, Typed}
-use Rattle.answers.specs.declared.Link.{Link}
+use Rattle.answers.specs.View.{View, view, Reading, Value, NoRead, mayRead, unreadable, readingOf}
+use Rattle.answers.specs.Replies.{Packet, Silence, Effect, Nothing, Stores, Reply, Part, Skip, Take, Listed, doing, only, errorPacket, error, write, search, keep, inRange, rangeOk, searched, groups, outlines, groupEnd, endOf, info, infos, findInformation, holds, pair, pairs, findByTypeValue, valuePart, typed, values, readReply, blobReply, readByType, grouped, groupValues, readByGroupType, nth, commanded, replyTo, mtuOk, linkOk}
+use Rattle.answers.specs.Serve.{State, sound, ledger, views, Bytes, unlikely, codedHeard, spoken, serveTests, serveRefusal, heardBy, answered, serve, Step, run}
+use Rattle.attributes.specs.Lists.{Each}
+use Rattle.answers.specs.Auditor.{accepted, lastFor, Told, HasPart, HasWhole, about, TrueOf, toldBy, readHeard, told, itemsIn, Starts, between, infoItem, pairItem, valueItem, groupItem, holdsValue, dues, due, Typed}
+use Rattle.answers.specs.ReplyLaws.{Leaves, by-pick, by-read, by-blob, by-searched, by-exchange, by-write, by-reply}
 use Rattle.answers.proofs.Held.{held}
 use Rattle.answers.proofs.Lists.{each, each-so, each-two, each-map, each-kept, each-keep, each-start, cut}
 use Rattle.answers.proofs.Searches.{on-list, Sized, search-sizes, Given, given-if, search-starts, within-view}
 use Rattle.answers.proofs.SentBack.{items-back, list-sent, list-read}
-use Rattle.answers.proofs.Steps.{serve-is, run-sound, run-skeleton}
-use Rattle.answers.proofs.Walk.{Leaves, by-pick, by-at, by-read, by-blob, by-searched, by-reply}
+use Rattle.answers.proofs.Steps.{run-sound, run-skeleton}
 
 -- What is known of each attribute of a sound table: its value is the one at its handle; its handle has two bytes; and the format of an
 -- item of 05 tells the item's length.
@@ -80,7 +80,7 @@ module _ (fl ll : ℕ) (fixed live : List ℕ) where
 
 form-told : (u : Uuid) (f : Form) → u .form ≡ f → typeOk f ≡ true → length (u .bytes) ≡ 16 → Told05 (2 + length (own u))
 form-told u Uuid16 e o l = let n : length (own u) ≡ 2 = own-length u l ∙ rw e in rw n (refl, omega arith)
-form-told u Uuid32 e o l = let z : _≡_ {A = ℕ} 0 1 = cc in absurd (omega arith)
+form-told u Uuid32 e o l = impossible (cc)
 form-told u Uuid128 e o l = let n : length (own u) ≡ 16 = own-length u l ∙ rw e in rw n (refl, omega arith)
 
 known-all : (fl ll last at : ℕ) (fixed live : List ℕ) (all : List Item) (rs : List Record) → recordsOk fl ll last at rs ≡ true
@@ -106,28 +106,27 @@ known s k t =
     known-all fl ll 0 0 (s .fixed) (s .live) (ledger s) (entries (s .table)) o t (alone-all fl ll (s .fixed) (s .live) 0 0 (entries (s .table)) o)
 
 -- A reading that shows a value shows the attribute's.
-shows-value : (a c : Bool) (x b : List ℕ) → pick a (pick c (Value x) (NoRead 0x0F)) (NoRead 0x02) ≡ Value b → x ≡ b
-shows-value true true x b e = cc
-shows-value true false x b e = let z : _≡_ {A = ℕ} 0 1 = cc in absurd (omega arith)
-shows-value false c x b e = let z : _≡_ {A = ℕ} 0 1 = cc in absurd (omega arith)
-
 shown-value : (e : Bool) (i : Item) (b : List ℕ) → readingOf e i ≡ Value b → i .value ≡ b
-shown-value e i b h = shows-value (i .readable) (not (i .readEncrypted) || e) (i .value) b h
+shown-value e i b h = by (mayRead e i) h
+  where
+    by : (c : Bool) → pick c (Value (i .value)) (NoRead (unreadable i)) ≡ Value b → i .value ≡ b
+    by true q = cc
+    by false q = impossible (cc)
 
 -- Of a request `q`, and what is read as its answer.
 FairRead : State → wire.Meaning → wire.Read → Type 0
 FairRead s q r =
-    Starts (itemsIn r) (due s q) × Each (λ (x : Told). TrueOf (valueAt (x .handle) (ledger s)) x) (toldBy (wire.Means q) r)
+    Starts (itemsIn r) (due s q) × Each (λ (x : Told). TrueOf (valueAt (about x) (ledger s)) x) (toldBy (wire.Means q) r)
 
 module _ (s : State) (op room : ℕ) (ns t : List ℕ) where
   abbrev Truth : Told → Type 0
-  Truth x = TrueOf (valueAt (x .handle) (ledger s)) x
+  Truth x = TrueOf (valueAt (about x) (ledger s)) x
 
   abbrev q : wire.Meaning
   q = wire.meaning op ns t
 
   Fair : Reply → Type 0
-  Fair r = FairRead s q (readHeard (saidBy (r .says) op room (r .effect) s .heard))
+  Fair r = FairRead s q (readHeard (spoken (r .says) op room))
 
   fair-read : (a : ℕ) (x : List ℕ) → FairRead s q (wire.Means (wire.shapeMeans a (wire.shapeOf a) x)) → FairRead s q (wire.read (a ∷ x))
   unfolding FairRead wire.read
@@ -137,21 +136,21 @@ module _ (s : State) (op room : ℕ) (ns t : List ℕ) where
       by true = f
       by false = (refl, tt)
 
-  -- an error tells nothing, nor do silence and refusals
+  -- an error tells nothing, nor does silence
   fair-01 : (x : List ℕ) → FairRead s q (wire.read (0x01 ∷ x))
   unfolding FairRead
   fair-01 x = fair-read 0x01 x (refl, tt)
 
   fair-packet : (m : wire.Meaning) (b : List ℕ) (e : Effect) → wire.send m ≡ wire.Sent b → FairRead s q (wire.read b) → Fair (doing (Packet m) e)
-  unfolding Fair saidBy encodedBy unlikely wire.send wire.shapeOf wire.rows
+  unfolding Fair unlikely wire.send wire.shapeOf wire.rows
   fair-packet m b e sent f = by (wire.send m) sent
     where
       fit : (c : Bool) (x : List ℕ) → FairRead s q (wire.read x)
-          → FairRead s q (readHeard (pick c (serving (Bytes x) (changed s e)) (serving (Bytes (unlikely op)) s) .heard))
+          → FairRead s q (readHeard (pick c (Bytes x) (Bytes (unlikely op))))
       fit true x g = g
       fit false x g = fair-01 _
 
-      by : (c : wire.Coded) → c ≡ wire.Sent b → FairRead s q (readHeard (encodedBy c op room e s .heard))
+      by : (c : wire.Coded) → c ≡ wire.Sent b → FairRead s q (readHeard (codedHeard c op room))
       by (wire.Sent x) h = let z : b ≡ x = cc in fit (leb (length x) room) x (rw (← z) f)
       by wire.NotSent h = fair-01 _
 
@@ -161,12 +160,8 @@ module _ (s : State) (op room : ℕ) (ns t : List ℕ) where
       fair-packet (errorPacket o h code) (0x01 ∷ (wire.sentFields (1 ∷ 2 ∷ 1 ∷ []) (o ∷ h ∷ code ∷ []) ++ [])) Nothing refl (fair-01 _)
 
   fair-quiet : (e : Effect) → Fair (doing Silence e)
-  unfolding Fair FairRead saidBy
+  unfolding Fair FairRead
   fair-quiet e = (refl, tt)
-
-  fair-refusal : (why : Refusal) → Fair (only (Refuses why))
-  unfolding Fair FairRead saidBy
-  fair-refusal why = (refl, tt)
 
   -- 03, 13: nothing is told of an attribute
   fair-03 : (n : ℕ) (e : Effect) → Fair (doing (Packet (wire.meaning 0x03 (n ∷ []) [])) e)
@@ -196,32 +191,34 @@ module _ (s : State) (op room : ℕ) (ns t : List ℕ) where
       (rw (list-read a ws ks width least is row fields long all) (f (items-back a ws ks width least is row fields long all)))
 
 -- What the attributes give to the searches, and how long an item is.
-given-valued : (e : Bool) (i : Item) (front : List ℕ) (n : ℕ) → Given true (front ++ take n (i .value)) (valued (readingOf e i) front n)
-unfolding valued
-given-valued e i front n = by (i .readable) (not (i .readEncrypted) || e)
+given-valued : (e : Bool) (i : Item) (front : List ℕ) (n : ℕ) → Given true (front ++ take n (i .value)) (valuePart (i .handle) (readingOf e i) front n)
+unfolding valuePart
+given-valued e i front n = by (mayRead e i)
   where
-    by : (a c : Bool) → Given true (front ++ take n (i .value)) (valued (pick a (pick c (Value (i .value)) (NoRead 0x0F)) (NoRead 0x02)) front n)
-    by true true = refl
-    by true false = tt
-    by false c = tt
+    by : (b : Bool) → Given true (front ++ take n (i .value)) (valuePart (i .handle) (pick b (Value (i .value)) (NoRead (unreadable i))) front n)
+    by true = refl
+    by false = tt
 
 abbrev Told09 : ℕ → Type 0
 Told09 n = (2 ≤ n) × (n < 256)
 
-sized-valued : (r : Reading) (front : List ℕ) (n : ℕ) → 2 ≤ length front → length front + n < 256 → Sized Told09 (valued r front n)
-unfolding valued
-sized-valued (Value b) front n h k = (simp length-append (omega arith), simp (length-append, length-take) (omega arith))
-sized-valued (NoRead code) front n h k = tt
+sized-valued : (a : ℕ) (r : Reading) (front : List ℕ) (n : ℕ) → 2 ≤ length front → length front + n < 256 → Sized Told09 (valuePart a r front n)
+unfolding valuePart
+sized-valued a (Value b) front n h k = (simp length-append (omega arith), simp (length-append, length-take) (omega arith))
+sized-valued a (NoRead code) front n h k = tt
 
 sized-if : (B : ℕ → Type 0) (c : Bool) (p : Part) → Sized B p → Sized B (pick c p Skip)
 sized-if B true p h = h
 sized-if B false p h = tt
 
-holds-value : (a c : Bool) (x value : List ℕ) → holds (pick a (pick c (Value x) (NoRead 0x0F)) (NoRead 0x02)) value ≡ true → x ≡ value
+-- 07 TELLS THE WHOLE VALUE: an attribute is listed for a value only where that is its value, and not a part of it.
+pub listed-is-whole : (e : Bool) (i : Item) (value : List ℕ) → holds (readingOf e i) value ≡ true → value ≡ i .value
 unfolding holds
-holds-value true true x value e = same-equal x value e
-holds-value true false x value e = let z : _≡_ {A = ℕ} 0 1 = cc in absurd (omega arith)
-holds-value false c x value e = let z : _≡_ {A = ℕ} 0 1 = cc in absurd (omega arith)
+listed-is-whole e i value h = by (mayRead e i) h
+  where
+    by : (b : Bool) → holds (pick b (Value (i .value)) (NoRead (unreadable i))) value ≡ true → value ≡ i .value
+    by true q = sym (same-equal (i .value) value q)
+    by false q = impossible (cc)
 
 format-small : (c : Bool) → pick c 1 2 < 256
 format-small true = omega arith
@@ -249,7 +246,7 @@ module _ (s : State) (op room : ℕ) (ns t : List ℕ) (kn : Each (Known (ledger
       (each-so (Known (ledger s)) (λ (i : Item). Shows (view (s .link .encrypted) i)) (ledger s)
       (λ i a b h. a .alone ∙ shown-value (s .link .encrypted) i b h) kn)
 
-  fair-0A : Fair s op room ns t (read (views s) (s .link) (nth ns 0))
+  fair-0A : Fair s op room ns t (readReply (views s) (s .link) (nth ns 0))
   unfolding Shows FairRead wire.shapeOf wire.rows
   fair-0A =
       let l = s .link in
@@ -257,7 +254,7 @@ module _ (s : State) (op room : ℕ) (ns t : List ℕ) (kn : Each (Known (ledger
       (λ v b shows at-it held-there. fair-value s op room ns t 0x0B (take (l .mtu - 1) b) refl
       (refl, (cut-truth (nth ns 0) (v .handle) (l .mtu - 1) b (sym at-it) (shows b held-there), tt)))
 
-  fair-0C : Fair s op room ns t (blob (views s) (s .link) (nth ns 0) (nth ns 1))
+  fair-0C : Fair s op room ns t (blobReply (views s) (s .link) (nth ns 0) (nth ns 1))
   unfolding Shows FairRead wire.shapeOf wire.rows
   fair-0C =
       let l = s .link in
@@ -274,13 +271,13 @@ module _ (s : State) (op room : ℕ) (ns t : List ℕ) (kn : Each (Known (ledger
 
   -- the lists: the start of what is due, and what is true of each item
   module _ (f : View → Part) (match : Item → Bool) (g : Item → List ℕ) (ok : (i : Item) → Given (match i) (g i) (f (view (s .link .encrypted) i)))
-      (from to size n : ℕ) (is : List (List ℕ)) (found : search f size (within from to (views s)) ≡ Listed n is) where
+      (from to size n : ℕ) (is : List (List ℕ)) (found : search size (map f (inRange from to (views s))) ≡ Listed n is) where
     starts : Starts is (map g (keep match (between from to (ledger s))))
     starts =
         on-list (λ k xs. Starts xs (map g (keep match (between from to (ledger s)))))
-        (search f size (map (view (s .link .encrypted)) (between from to (ledger s)))) n is
+        (search size (map f (map (view (s .link .encrypted)) (between from to (ledger s))))) n is
         (search-starts (s .link .encrypted) f match g ok size (between from to (ledger s)))
-        (ap (search f size) (sym (within-view (s .link .encrypted) from to (ledger s))) ∙ found)
+        (ap (λ (vs : List View). search size (map f vs)) (sym (within-view (s .link .encrypted) from to (ledger s))) ∙ found)
 
     each-item : (Q : List ℕ → Type 0) → ((i : Item) → Known (ledger s) i → match i ≡ true → Q (g i)) → Each Q is
     each-item Q h =
@@ -291,8 +288,8 @@ module _ (s : State) (op room : ℕ) (ns t : List ℕ) (kn : Each (Known (ledger
         (each-so (Known (ledger s)) (λ (i : Item). match i ≡ true → Q (g i)) range h (each-keep (Known (ledger s)) _ (ledger s) kn))))
 
   sizes : (B : ℕ → Type 0) (f : View → Part) (vs : List View) (size n : ℕ) (is : List (List ℕ)) → Each (λ v. Sized B (f v)) vs
-      → search f size vs ≡ Listed n is → B n × AllOf n is
-  sizes B f vs size n is a found = on-list (λ k xs. B k × AllOf k xs) (search f size vs) n is (search-sizes B f size vs a) found
+      → search size (map f vs) ≡ Listed n is → B n × AllOf n is
+  sizes B f vs size n is a found = on-list (λ k xs. B k × AllOf k xs) (search size (map f vs)) n is (search-sizes B f size vs a) found
 
   due-row : (o : ℕ) (x : List (List ℕ)) → op ≡ o → lookup o (dues s ns t) [] ≡ x → due s (wire.meaning op ns t) ≡ x
   unfolding due
@@ -308,18 +305,18 @@ module _ (s : State) (op room : ℕ) (ns t : List ℕ) (kn : Each (Known (ledger
       by-searched (Fair s op room ns t) 0x08 vs (l .mtu - 2) from to values (typed l t) (λ h code. fair-error s op room ns t 0x08 h code)
       (λ n is found.
       let ok : (i : Item) → Given (equalTypes (i .kind) t) (valueItem l i) (typed l t (view (l .encrypted) i)) = λ i.
-      given-if (equalTypes (i .kind) t) (valueItem l i) (valued (readingOf (l .encrypted) i) (bytesOf 2 (i .handle)) (l .mtu - 4))
+      given-if (equalTypes (i .kind) t) (valueItem l i) (valuePart (i .handle) (readingOf (l .encrypted) i) (bytesOf 2 (i .handle)) (l .mtu - 4))
       (λ q. given-valued (l .encrypted) i (bytesOf 2 (i .handle)) (l .mtu - 4)) in
-      let size = sizes Told09 (typed l t) (within from to vs) (l .mtu - 2) n is
-      (each (λ (v : View). Sized Told09 (typed l t v)) (within from to vs)
-      (λ v. sized-if Told09 (equalTypes (v .kind) t) (valued (v .reading) (bytesOf 2 (v .handle)) (l .mtu - 4))
-      (sized-valued (v .reading) (bytesOf 2 (v .handle)) (l .mtu - 4) (omega arith) (omega arith)))) found in
+      let size = sizes Told09 (typed l t) (inRange from to vs) (l .mtu - 2) n is
+      (each (λ (v : View). Sized Told09 (typed l t v)) (inRange from to vs)
+      (λ v. sized-if Told09 (equalTypes (v .kind) t) (valuePart (v .handle) (v .reading) (bytesOf 2 (v .handle)) (l .mtu - 4))
+      (sized-valued (v .handle) (v .reading) (bytesOf 2 (v .handle)) (l .mtu - 4) (omega arith) (omega arith)))) found in
       fair-list s op room ns t 0x09 (1 ∷ []) (n ∷ []) wire.first 2 is refl (omega (arith, size .0 .1), tt) (size .0 .0) (size .1)
       (λ back. rw (back, due-row 0x08 _ e refl) (
         starts (typed l t) (ofKind t) (valueItem l) ok from to (l .mtu - 2) n is found,
-        each-map (Truth s op room ns t) (λ (b : List ℕ). tells (numberAt 2 0 b) 0 (drop 2 b)) is
+        each-map (Truth s op room ns t) (λ (b : List ℕ). HasPart (numberAt 2 0 b) 0 (drop 2 b)) is
             (each-item (typed l t) (ofKind t) (valueItem l) ok from to (l .mtu - 2) n is found
-            (λ (b : List ℕ). Truth s op room ns t (tells (numberAt 2 0 b) 0 (drop 2 b)))
+            (λ (b : List ℕ). Truth s op room ns t (HasPart (numberAt 2 0 b) 0 (drop 2 b)))
             (λ i a m. cut-truth (numberOf (bytesOf 2 (i .handle))) (i .handle) (l .mtu - 4) (i .value) (number-bytes 2 (i .handle) (a .small)) (a .alone))),
       )))
 
@@ -337,19 +334,19 @@ module _ (s : State) (op room : ℕ) (ns t : List ℕ) (kn : Each (Known (ledger
       (λ n is found.
       let ok : (i : Item) → Given (equalTypes (i .kind) t) (groupItem vs l i) (grouped vs l t (view (l .encrypted) i)) = λ i.
       let front = bytesOf 2 (i .handle) ++ bytesOf 2 (groupEnd (outlines vs) (i .handle)) in
-      given-if (equalTypes (i .kind) t) (groupItem vs l i) (valued (readingOf (l .encrypted) i) front (l .mtu - 6))
+      given-if (equalTypes (i .kind) t) (groupItem vs l i) (valuePart (i .handle) (readingOf (l .encrypted) i) front (l .mtu - 6))
       (λ q. given-valued (l .encrypted) i front (l .mtu - 6)) in
-      let size = sizes Told09 (grouped vs l t) (within from to vs) (l .mtu - 2) n is
-      (each (λ (v : View). Sized Told09 (grouped vs l t v)) (within from to vs)
+      let size = sizes Told09 (grouped vs l t) (inRange from to vs) (l .mtu - 2) n is
+      (each (λ (v : View). Sized Told09 (grouped vs l t v)) (inRange from to vs)
       (λ v. let front = bytesOf 2 (v .handle) ++ bytesOf 2 (groupEnd (outlines vs) (v .handle)) in
-      sized-if Told09 (equalTypes (v .kind) t) (valued (v .reading) front (l .mtu - 6))
-      (sized-valued (v .reading) front (l .mtu - 6) (omega arith) (omega arith)))) found in
+      sized-if Told09 (equalTypes (v .kind) t) (valuePart (v .handle) (v .reading) front (l .mtu - 6))
+      (sized-valued (v .handle) (v .reading) front (l .mtu - 6) (omega arith) (omega arith)))) found in
       fair-list s op room ns t 0x11 (1 ∷ []) (n ∷ []) wire.first 4 is refl (omega (arith, size .0 .1), tt) (size .0 .0) (size .1)
       (λ back. rw (back, due-row 0x10 _ e refl) (
         starts (grouped vs l t) (ofKind t) (groupItem vs l) ok from to (l .mtu - 2) n is found,
-        each-map (Truth s op room ns t) (λ (b : List ℕ). tells (numberAt 2 0 b) 0 (drop 4 b)) is
+        each-map (Truth s op room ns t) (λ (b : List ℕ). HasPart (numberAt 2 0 b) 0 (drop 4 b)) is
             (each-item (grouped vs l t) (ofKind t) (groupItem vs l) ok from to (l .mtu - 2) n is found
-            (λ (b : List ℕ). Truth s op room ns t (tells (numberAt 2 0 b) 0 (drop 4 b)))
+            (λ (b : List ℕ). Truth s op room ns t (HasPart (numberAt 2 0 b) 0 (drop 4 b)))
             (λ i a m. cut-truth (numberOf (bytesOf 2 (i .handle))) (i .handle) (l .mtu - 6) (i .value) (number-bytes 2 (i .handle) (a .small)) (a .alone))),
       ))))
 
@@ -365,21 +362,20 @@ module _ (s : State) (op room : ℕ) (ns t : List ℕ) (kn : Each (Known (ledger
       (λ n is found.
       let ok : (i : Item) → Given (holdsValue (l .encrypted) kind t i) (pairItem vs kind i) (pair vs kind t (view (l .encrypted) i)) = λ i.
       given-if (holdsValue (l .encrypted) kind t i) (pairItem vs kind i) (Take (pairItem vs kind i)) (λ q. refl) in
-      let size = sizes (λ k. k ≡ 4) (pair vs kind t) (within from to vs) (l .mtu - 1) n is
-      (each (λ (v : View). Sized (λ k. k ≡ 4) (pair vs kind t v)) (within from to vs)
+      let size = sizes (λ k. k ≡ 4) (pair vs kind t) (inRange from to vs) (l .mtu - 1) n is
+      (each (λ (v : View). Sized (λ k. k ≡ 4) (pair vs kind t v)) (inRange from to vs)
       (λ v. sized-if (λ k. k ≡ 4) (equalTypes (v .kind) kind && holds (v .reading) t)
-      (Take (bytesOf 2 (v .handle) ++ bytesOf 2 (endOf vs kind (v .handle)))) refl)) found in
+      (Take (bytesOf 2 (v .handle) ++ bytesOf 2 (endOf (outlines vs) kind (v .handle)))) refl)) found in
       let all : AllOf 4 is = rw (size .0) at (size .1) in
       fair-list s op room ns t 0x07 [] [] (λ ks. 4) 2 is refl tt (omega arith) all
       (λ back. rw (back, due-row 0x06 _ e refl) (
         starts (pair vs kind t) (holdsValue (l .encrypted) kind t) (pairItem vs kind) ok from to (l .mtu - 1) n is found,
-        each-map (Truth s op room ns t) (λ (b : List ℕ). tells (numberAt 2 0 b) 0 t) is
+        each-map (Truth s op room ns t) (λ (b : List ℕ). HasWhole (numberAt 2 0 b) t) is
             (each-item (pair vs kind t) (holdsValue (l .encrypted) kind t) (pairItem vs kind) ok from to (l .mtu - 1) n is found
-            (λ (b : List ℕ). Truth s op room ns t (tells (numberAt 2 0 b) 0 t))
+            (λ (b : List ℕ). Truth s op room ns t (HasWhole (numberAt 2 0 b) t))
             (λ i a m.
             let h : numberOf (bytesOf 2 (i .handle)) ≡ i .handle = number-bytes 2 (i .handle) (a .small) in
-            let x : i .value ≡ t = holds-value (i .readable) (not (i .readEncrypted) || l .encrypted) (i .value) t (both (equalTypes (i .kind) kind) _ m .1) in
-            sym (take-length t) ∙ ap (take (length t)) (sym (ap (λ (k : ℕ). valueAt k (ledger s)) h ∙ a .alone ∙ x)))),
+            listed-is-whole (l .encrypted) i t (both (equalTypes (i .kind) kind) _ m .1) ∙ sym (ap (λ (k : ℕ). valueAt k (ledger s)) h ∙ a .alone))),
       )))
 
   fair-04 : op ≡ 0x04 → Fair s op room ns t (findInformation (views s) (s .link) (nth ns 0) (nth ns 1))
@@ -397,102 +393,83 @@ module _ (s : State) (op room : ℕ) (ns t : List ℕ) (kn : Each (Known (ledger
       (each-so (Known (ledger s)) (λ (i : Item). Sized Told05 (info (view (l .encrypted) i))) range
       (λ i a. let w : length (bytesOf 2 (i .handle) ++ i .kind) ≡ 2 + length (i .kind) = omega arith in rw w (a .form))
       (each-keep (Known (ledger s)) _ (ledger s) kn)) in
-      let size = sizes Told05 info (within from to vs) (l .mtu - 2) n is (rw (within-view (l .encrypted) from to (ledger s)) long) found in
+      let size = sizes Told05 info (inRange from to vs) (l .mtu - 2) n is (rw (within-view (l .encrypted) from to (ledger s)) long) found in
       let width : wire.byFormat (format n ∷ []) ≡ n = size .0 .0 in
       fair-list s op room ns t 0x05 (1 ∷ []) (format n ∷ []) wire.byFormat 2 is refl (format-small (eqb n 4), tt)
       (rw width (size .0 .1)) (rw width (size .1))
       (λ back. rw (back, due-row 0x04 _ e refl)
       (rw (keep-all range) at (starts info (λ (i : Item). true) infoItem (λ i. refl) from to (l .mtu - 2) n is found), tt)))
 
-  fair-12 : Fair s op room ns t (write (views s) (nth ns 0) t)
-  unfolding write writing
-  fair-12 =
-      by-at (Fair s op room ns t) (λ v. Unit) (nth ns 0) (views s) (λ v. writing (nth ns 0) t (v .writing)) (error 0x12 (nth ns 0) 0x01)
-      (each (λ v. Unit) (views s) (λ v. tt)) (λ v u h. one (v .writing)) (fair-error s op room ns t 0x12 (nth ns 0) 0x01)
-    where
-      one : (w : Writing) → Fair s op room ns t (writing (nth ns 0) t w)
-      one (UpTo c) =
-          by-pick (Fair s op room ns t) (leb (length t) c) (doing (Packet (wire.meaning 0x13 [] [])) (Stores (nth ns 0) t)) (error 0x12 (nth ns 0) 0x0D)
-          (fair-13 s op room ns t (Stores (nth ns 0) t)) (fair-error s op room ns t 0x12 (nth ns 0) 0x0D)
-      one (NoWrite code) = fair-error s op room ns t 0x12 (nth ns 0) code
-
   leaves : Leaves (views s) (s .link) op ns t (Fair s op room ns t)
-  unfolding exchange
+  unfolding commanded
   leaves = record {
-    errors = λ h code. fair-error s op room ns t op h code;
+    requests = record {
+      errors = λ h code. fair-error s op room ns t op h code;
+      agrees = λ q. by-exchange (Fair s op room ns t) (s .link) (nth ns 0) (fair-error s op room ns t 0x02 0 0x06) (λ e. fair-03 s op room ns t 247 _);
+      informs = fair-04;
+      finds = fair-06;
+      types = fair-08;
+      reads = λ q. fair-0A;
+      blobs = λ q. fair-0C;
+      groupings = fair-10;
+      writes = λ q. by-write (Fair s op room ns t) (views s) (nth ns 0) t (λ code. fair-error s op room ns t 0x12 (nth ns 0) code)
+          (fair-13 s op room ns t (Stores (nth ns 0) t));
+    };
     quiet = fair-quiet s op room ns t Nothing;
-    refusals = fair-refusal s op room ns t;
-    reads = λ q. fair-0A;
-    blobs = λ q. fair-0C;
-    informs = fair-04;
-    finds = fair-06;
-    types = fair-08;
-    groupings = fair-10;
-    agrees = λ q. by-pick (Fair s op room ns t) (s .link .exchanged) (error 0x02 0 0x06)
-        (doing (Packet (wire.meaning 0x03 (247 ∷ []) [])) (Agrees (max 23 (min 247 (nth ns 0)))))
-        (fair-error s op room ns t 0x02 0 0x06) (fair-03 s op room ns t 247 (Agrees (max 23 (min 247 (nth ns 0)))));
-    writes = λ q. fair-12;
-    commands = fair-quiet s op room ns t (write (views s) (nth ns 0) t .effect);
+    commands = λ q. fair-quiet s op room ns t (write (views s) (nth ns 0) t .effect);
   }
 
--- The responder. A link within its bounds has an MTU of at most 247; on any other the answer is a refusal.
-link-most : (l : Link) → linkOk l ≡ true → l .mtu ≤ 247
-unfolding linkOk
-link-most l e = leb-true (l .mtu) 247 (both (leb 23 (l .mtu)) _ e .1)
+-- The responder. A sound link has an MTU of at most 247; where a test of serving fails, nothing is told.
+module _ (s : State) (k : sound s ≡ true) (typed : Typed s) where
+  fair-reply : (op : ℕ) (p : List ℕ) (room : ℕ) → s .link .mtu ≤ 247
+      → Fair s op room (wire.shapeMeans op (wire.shapeOf op) p .numbers) (wire.shapeMeans op (wire.shapeOf op) p .tail) (replyTo (views s) (s .link) (op ∷ p))
+  fair-reply op p room most =
+      by-reply _ (views s) (s .link) op p
+      (leaves s op room (wire.shapeMeans op (wire.shapeOf op) p .numbers) (wire.shapeMeans op (wire.shapeOf op) p .tail) (known s k typed) most)
 
-bad-link : (vs : List View) (l : Link) (p : List ℕ) (room : ℕ) → linkOk l ≡ false → reply vs l p room ≡ only (Refuses BadLink)
-unfolding reply
-bad-link vs l p room e =
-    ap (λ (b : Bool). pick b (pick (leb (l .mtu) room) (replyTo vs l p) (only (Refuses InsufficientSpace))) (only (Refuses BadLink))) e
+  link-most : (p : List ℕ) (room : ℕ) → serveRefusal s p room ≡ Accepted → s .link .mtu ≤ 247
+  unfolding serveRefusal linkOk mtuOk
+  link-most p room e = leb-true (s .link .mtu) 247 (both (leb 23 (s .link .mtu)) _ (each-passed (serveTests s p room) e .1 .0) .1)
 
-fair-reply : (s : State) (op : ℕ) (p : List ℕ) (room : ℕ) → sound s ≡ true → Typed s
-    → Fair s op room (wire.shapeMeans op (wire.shapeOf op) p .numbers) (wire.shapeMeans op (wire.shapeOf op) p .tail) (reply (views s) (s .link) (op ∷ p) room)
-fair-reply s op p room k typed = by (linkOk (s .link)) refl
-  where
-    by : (b : Bool) → linkOk (s .link) ≡ b
-        → Fair s op room (wire.shapeMeans op (wire.shapeOf op) p .numbers) (wire.shapeMeans op (wire.shapeOf op) p .tail) (reply (views s) (s .link) (op ∷ p) room)
-    by true h =
-        by-reply _ (views s) (s .link) op p room
-        (leaves s op room (wire.shapeMeans op (wire.shapeOf op) p .numbers) (wire.shapeMeans op (wire.shapeOf op) p .tail) (known s k typed) (link-most (s .link) h))
-    by false h =
-        rw (bad-link (views s) (s .link) (op ∷ p) room h)
-        (fair-refusal s op room (wire.shapeMeans op (wire.shapeOf op) p .numbers) (wire.shapeMeans op (wire.shapeOf op) p .tail) BadLink)
+  fair-answer : (op : ℕ) (p : List ℕ) (room : ℕ) (o : Outcome) → serveRefusal s (op ∷ p) room ≡ o
+      → FairRead s (wire.shapeMeans op (wire.shapeOf op) p) (readHeard (heardBy o (spoken (replyTo (views s) (s .link) (op ∷ p) .says) op room)))
+  unfolding Fair FairRead
+  fair-answer op p room Accepted e = fair-reply op p room (link-most (op ∷ p) room e)
+  fair-answer op p room (Refused why) e = (refl, tt)
 
-fair-serve : (s : State) (p : List ℕ) (room : ℕ) (q : wire.Meaning) → sound s ≡ true → Typed s → wire.read p ≡ wire.Means q
-    → FairRead s q (readHeard (serve s p room .heard))
-unfolding wire.read Fair
-fair-serve s [] room q k typed e = let z : _≡_ {A = ℕ} 0 1 = cc in absurd (omega arith)
-fair-serve s (op ∷ p) room q k typed e =
-    rw (sym (meant (wire.decodes op p) e), serve-is s (op ∷ p) room k) (fair-reply s op p room k typed)
-  where
-    meant : (b : Bool) → pick b (wire.Means (wire.shapeMeans op (wire.shapeOf op) p)) wire.NotRead ≡ wire.Means q → wire.shapeMeans op (wire.shapeOf op) p ≡ q
-    meant true h = cc
-    meant false h = let z : _≡_ {A = ℕ} 0 1 = cc in absurd (omega arith)
+  fair-serve : (p : List ℕ) (room : ℕ) (q : wire.Meaning) → wire.read p ≡ wire.Means q → FairRead s q (readHeard (serve s p room .heard))
+  unfolding wire.read serve answered
+  fair-serve [] room q e = impossible (cc)
+  fair-serve (op ∷ p) room q e = rw (sym (meant (wire.decodes op p) e)) (fair-answer op p room (serveRefusal s (op ∷ p) room) refl)
+    where
+      meant : (b : Bool) → pick b (wire.Means (wire.shapeMeans op (wire.shapeOf op) p)) wire.NotRead ≡ wire.Means q → wire.shapeMeans op (wire.shapeOf op) p ≡ q
+      meant true h = cc
+      meant false h = impossible (cc)
 
 -- IN A LIST, EACH HANDLE STANDS BEFORE ITS OWN VALUE: the items that a client reads in the answer to 04, 06, 08 or 10 are the first of
 -- those that are due to its request, in order.
 pub lists-in-order : (s : State) (p : List ℕ) (room : ℕ) (q : wire.Meaning) → sound s ≡ true → Typed s → wire.read p ≡ wire.Means q
     → Starts (itemsIn (readHeard (serve s p room .heard))) (due s q)
 unfolding FairRead
-lists-in-order s p room q k typed e = fair-serve s p room q k typed e .0
+lists-in-order s p room q k typed e = fair-serve s k typed p room q e .0
 
 -- WHAT IS TOLD OF A HANDLE IS WHAT IS HELD THERE, by 0A and 0C and in every list.
 pub told-is-held : (s : State) (p : List ℕ) (room : ℕ) → sound s ≡ true → Typed s
-    → Each (λ (x : Told). TrueOf (valueAt (x .handle) (ledger s)) x) (told s p room)
+    → Each (λ (x : Told). TrueOf (valueAt (about x) (ledger s)) x) (told s p room)
 unfolding told FairRead
 told-is-held s p room k typed = by (wire.read p) refl
   where
     by : (r : wire.Read) → wire.read p ≡ r
-        → Each (λ (x : Told). TrueOf (valueAt (x .handle) (ledger s)) x) (toldBy r (readHeard (serve s p room .heard)))
-    by (wire.Means q) e = fair-serve s p room q k typed e .1
+        → Each (λ (x : Told). TrueOf (valueAt (about x) (ledger s)) x) (toldBy r (readHeard (serve s p room .heard)))
+    by (wire.Means q) e = fair-serve s k typed p room q e .1
     by wire.NotRead e = tt
 
 -- THE AUDITOR'S SENTENCE. Whatever own stores, packets and changes of encryption came before, all that a client is told of a handle is
 -- of the value that was last written to this handle, or of the one that it held at the start, where none was.
 pub expiry-is-not-lot : (s : State) (es : List Step) (p : List ℕ) (room : ℕ) → sound s ≡ true → Typed s
-    → Each (λ (x : Told). TrueOf (lastFor (x .handle) (valueAt (x .handle) (ledger s)) (accepted s es)) x) (told (run s es) p room)
+    → Each (λ (x : Told). TrueOf (lastFor (about x) (valueAt (about x) (ledger s)) (accepted s es)) x) (told (run s es) p room)
 expiry-is-not-lot s es p room k typed =
-    each-so (λ (x : Told). TrueOf (valueAt (x .handle) (ledger (run s es))) x)
-    (λ (x : Told). TrueOf (lastFor (x .handle) (valueAt (x .handle) (ledger s)) (accepted s es)) x) (told (run s es) p room)
-    (λ x h. h ∙ ap (λ (v : List ℕ). take (length (x .bytes)) (drop (x .offset) v)) (held s es (x .handle) k))
-    (told-is-held (run s es) p room (run-sound s es k) (rw (run-skeleton s es k) typed))
+    each-so (λ (x : Told). TrueOf (valueAt (about x) (ledger (run s es))) x)
+    (λ (x : Told). TrueOf (lastFor (about x) (valueAt (about x) (ledger s)) (accepted s es)) x) (told (run s es) p room)
+    (λ x h. rw (held s es (about x) k) at h)
+    (told-is-held (run s es) p room (run-sound s es k) (rw (run-skeleton s es) typed))

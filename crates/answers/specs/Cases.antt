@@ -4,14 +4,23 @@ use mathlib.Core.Bool.{Bool, true, false}
 use mathlib.Core.List.{List, [], _∷_, _++_}
 use lib.ListN.{length, replicate}
 use Rattle.uuid.specs.Uuids.{short}
-use Rattle.att.specs.Wire.{Meaning, meaning, Read, Means, NotRead, read, strict, Coded, Sent, NotSent, send}
+use Rattle.codec.specs.Refusals.{refusalNumber, refusalOf}
+use Rattle.uuid.specs.declared.Uuid.{Uuid}
+use Rattle.att.specs.Wire.{strict, Coded, Sent}
 use Rattle.att.specs.Items.{itemsOf}
+use Rattle.att.specs.Typed.{span, code, request, response, decoded, meaningOf, encodedAgain}
+use Rattle.att.specs.declared.Att.{Att}
+use Rattle.att.specs.declared.AttReq.the-variants as req
+use Rattle.att.specs.declared.FindInformationUuidFormat.the-variants.{Uuid16}
+use Rattle.att.specs.declared.AttRsp.the-variants as rsp
+use Rattle.att.specs.declared.Parsed.{Parsed}
+use Rattle.att.specs.declared.Parsed.the-variants as parsed
 use Rattle.attributes.specs.Additions.{blank}
 use Rattle.attributes.specs.declared.Place.{Place}
 use Rattle.attributes.specs.declared.Place.the-variants.{Fixed, Live}
 use Rattle.attributes.specs.declared.Record.{Record}
 use Rattle.attributes.specs.declared.Table.{Table}
-use Rattle.answers.specs.Serve.{State, Heard, Bytes, serve}
+use Rattle.answers.specs.Serve.{firstLink, State, Heard, Bytes, serve}
 use Rattle.answers.specs.declared.Link.{Link}
 
 -- The table: 1 type 2800 fixed 0F 18; 2 type 2803 fixed 02 03 00 19 2A; 3 type 2A19 live, capacity 1, value 64; all readable only.
@@ -41,15 +50,15 @@ tillTable codeLength = record {
 }
 
 abbrev pub newLink : Link
-newLink = record { mtu = 23; exchanged = false; encrypted = false }
+newLink = firstLink false
 
 -- the till with an unlock code and what stands behind it in its slot
 abbrev pub tillWith : List ℕ → List ℕ → State
-tillWith code rest = record {
-  table = tillTable (length code);
+tillWith digits rest = record {
+  table = tillTable (length digits);
   link = newLink;
   fixed = 0x0F ∷ 0x18 ∷ 0x02 ∷ 0x03 ∷ 0x00 ∷ 0x19 ∷ 0x2A ∷ [];
-  live = 0x64 ∷ (code ++ rest);
+  live = 0x64 ∷ (digits ++ rest);
 }
 
 abbrev pub till : State
@@ -65,32 +74,32 @@ pub data Trial : Type 0 where
   Send : List ℕ → Trial
 
 pub data Result : Type 0 where
-  Decodes : Read → Result
+  Gives : Att → Result
+  Refuses : ℕ → Result
   IsStrict : Bool → Result
   Holds : List (List ℕ) → Result
   Encodes : Coded → Result
   Hears : Heard → Result
 
-abbrev pub listed : Read → List (List ℕ)
-listed (Means m) = itemsOf m
-listed NotRead = []
+-- what `decode` answers: a typed packet, or a refusal with its number
+abbrev pub given : Parsed → Result
+given (parsed.Packet a) = Gives a
+given (parsed.Refused e) = Refuses (refusalNumber (refusalOf e))
 
-abbrev pub again : Read → Coded
-again (Means m) = send m
-again NotRead = NotSent
+abbrev pub listed : Parsed → Uuid → List ℕ → List (List ℕ)
+listed (parsed.Packet a) u b = itemsOf (meaningOf a u b)
+listed (parsed.Refused e) u b = []
 
 abbrev pub tried : Trial → Result
-tried (Decode b) = Decodes (read b)
+tried (Decode b) = given (decoded b .answer)
 tried (Strict b) = IsStrict (strict b)
-tried (ListItems b) = Holds (listed (read b))
-tried (Again b) = Encodes (again (read b))
+tried (ListItems b) = Holds (listed (decoded b .answer) (decoded b .uuid) b)
+tried (Again b) = Encodes (encodedAgain (decoded b .answer) (decoded b .uuid) b)
 tried (Send b) = Hears (serve till b 64 .heard)
 
+-- InvalidValue
 abbrev pub invalid : Result
-invalid = Decodes NotRead
-
-abbrev pub means : ℕ → List ℕ → List ℕ → Result
-means op ns t = Decodes (Means (meaning op ns t))
+invalid = Refuses 2
 
 abbrev pub answers : List ℕ → Result
 answers b = Hears (Bytes b)
@@ -100,22 +109,22 @@ cases =
     -- (1) empty, InvalidValue
     (Decode [], invalid)
     -- (2) 0A 34 12, Read of 1234
-    ∷ (Decode (0x0A ∷ 0x34 ∷ 0x12 ∷ []), means 0x0A (0x1234 ∷ []) [])
+    ∷ (Decode (0x0A ∷ 0x34 ∷ 0x12 ∷ []), given (request (req.Read 0x1234)))
     -- (3) 0A, InvalidValue
     ∷ (Decode (0x0A ∷ []), invalid)
     -- (4) 0A 34 12 99, as 2, not strict
-    ∷ (Decode (0x0A ∷ 0x34 ∷ 0x12 ∷ 0x99 ∷ []), means 0x0A (0x1234 ∷ []) [])
+    ∷ (Decode (0x0A ∷ 0x34 ∷ 0x12 ∷ 0x99 ∷ []), given (request (req.Read 0x1234)))
     ∷ (Strict (0x0A ∷ 0x34 ∷ 0x12 ∷ 0x99 ∷ []), IsStrict false)
     -- (5) 01 0A 01 00, InvalidValue; with 0A added, accepted
     ∷ (Decode (0x01 ∷ 0x0A ∷ 0x01 ∷ 0x00 ∷ []), invalid)
-    ∷ (Decode (0x01 ∷ 0x0A ∷ 0x01 ∷ 0x00 ∷ 0x0A ∷ []), means 0x01 (0x0A ∷ 0x0001 ∷ 0x0A ∷ []) [])
+    ∷ (Decode (0x01 ∷ 0x0A ∷ 0x01 ∷ 0x00 ∷ 0x0A ∷ []), given (response (rsp.Error 0x0A 0x0001 (code 0x0A))))
     -- (6) 09 03 05 00 AA 06 00, one item, encodes to 09 03 05 00 AA
     ∷ (ListItems (0x09 ∷ 0x03 ∷ 0x05 ∷ 0x00 ∷ 0xAA ∷ 0x06 ∷ 0x00 ∷ []), Holds ((0x05 ∷ 0x00 ∷ 0xAA ∷ []) ∷ []))
     ∷ (Again (0x09 ∷ 0x03 ∷ 0x05 ∷ 0x00 ∷ 0xAA ∷ 0x06 ∷ 0x00 ∷ []), Encodes (Sent (0x09 ∷ 0x03 ∷ 0x05 ∷ 0x00 ∷ 0xAA ∷ [])))
     -- (7) 09 01, InvalidValue
     ∷ (Decode (0x09 ∷ 0x01 ∷ []), invalid)
     -- (8) 05 01 accepted without pairs, 05 03 InvalidValue
-    ∷ (Decode (0x05 ∷ 0x01 ∷ []), means 0x05 (0x01 ∷ []) [])
+    ∷ (Decode (0x05 ∷ 0x01 ∷ []), given (response (rsp.FindInformation Uuid16 (span 2 0))))
     ∷ (ListItems (0x05 ∷ 0x01 ∷ []), Holds [])
     ∷ (Decode (0x05 ∷ 0x03 ∷ []), invalid)
     -- (9) 04 01 00 FF FF

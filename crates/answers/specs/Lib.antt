@@ -1,8 +1,10 @@
 pub mod Auditor
 pub mod Cases
 pub mod Contract
-pub mod ContractLaws
 pub mod Demand3
+pub mod Examples
+pub mod Premises
 pub mod Replies
+pub mod ReplyLaws
 pub mod Serve
 pub mod View

@@ -1,24 +1,21 @@
--- Document 01, "How a packet is served": the reply to a packet as a function of the link's view of the table, the link, the packet
--- and the output's length, and of nothing else. A reply is a packet of the wire, silence or a refusal, and an effect.
-use Prim.Native.Nat.{ℕ, _+_, _-_, _/_, _%_, min, max}
+-- Document 01, "How a packet is served": the reply to a packet as a function of the link's view of the table, the link and the packet,
+-- and of nothing else. A reply is a packet of the wire or silence, and an effect.
+use Prim.Native.Nat.{ℕ, _-_, _/_, _%_, min, max}
 use mathlib.Core.Bool.{Bool, false, _&&_, _||_, not}
 use mathlib.Core.List.{List, [], _∷_, _++_, map}
 use lib.ListN.{length, take, drop, getD}
 use lib.Dec.{leb, ltb, eqb}
 use Rattle.codec.specs.Cases.{pick, lookup, same}
-use Rattle.codec.specs.declared.Refusal.{Refusal}
-use Rattle.codec.specs.declared.Refusal.the-variants.{InsufficientSpace, InvalidValue, BadLink}
 use Rattle.primitives.specs.Numbers.{bytesOf}
 use Rattle.uuid.specs.Uuids.{equalTypes}
 use Rattle.att.specs.Wire.{Meaning, meaning, shapeOf, shapeMeans, strict}
 use Rattle.att.specs.Items.{joined}
-use Rattle.answers.specs.View.{View, Reading, Value, NoRead, Writing, UpTo, NoWrite}
+use Rattle.answers.specs.View.{View, Reading, Value, NoRead, Writing, UpTo, NoWrite, viewAt}
 use Rattle.answers.specs.declared.Link.{Link}
 
 pub data Says : Type 0 where
   Packet : Meaning → Says
   Silence : Says
-  Refuses : Refusal → Says
 
 -- what a packet does beside its answer: nothing, a store, or the end of an exchange
 pub data Effect : Type 0 where
@@ -50,72 +47,72 @@ exchange l mtu =
 
 -- "0A, 0C, 12: unknown handle 01; not readable 02 or not writable 03; not encrypted 0F; 0C with offset over the length 07; 12 over
 -- capacity 0D. Handle is the requested one. 0A and 0C return at most MTU - 1 bytes. 12 replaces the value."
-unfoldable pub at : ℕ → List View → (View → Reply) → Reply → Reply
-at h [] k none = none
-at h (v ∷ vs) k none = pick (eqb (v .handle) h) (k v) (at h vs k none)
+-- First, the packets that 0A and 0C get of a value that the link may read.
+abbrev pub valuePacket : Link → List ℕ → Meaning
+valuePacket l b = meaning 0x0B [] (take (l .mtu - 1) b)
+
+abbrev pub blobPacket : Link → ℕ → ℕ → List ℕ → Meaning
+blobPacket l h offset b = pick (leb offset (length b)) (meaning 0x0D [] (take (l .mtu - 1) (drop offset b))) (errorPacket 0x0C h 0x07)
+
+abbrev pub valueTold : Link → List ℕ → Reply
+valueTold l b = only (Packet (valuePacket l b))
+
+abbrev pub blobTold : Link → ℕ → ℕ → List ℕ → Reply
+blobTold l h offset b = only (Packet (blobPacket l h offset b))
 
 unfoldable pub reading : ℕ → ℕ → (List ℕ → Reply) → Reading → Reply
 reading op h k (Value v) = k v
 reading op h k (NoRead code) = error op h code
 
-unfoldable pub read : List View → Link → ℕ → Reply
-read vs l h =
-    at h vs (λ v. reading 0x0A h (λ b. only (Packet (meaning 0x0B [] (take (l .mtu - 1) b)))) (v .reading)) (error 0x0A h 0x01)
+unfoldable pub readReply : List View → Link → ℕ → Reply
+readReply vs l h = viewAt h (λ v. reading 0x0A h (valueTold l) (v .reading)) (error 0x0A h 0x01) vs
 
-unfoldable pub blob : List View → Link → ℕ → ℕ → Reply
-blob vs l h offset =
-    at h vs
-    (λ v. reading 0x0C h
-    (λ b. pick (leb offset (length b)) (only (Packet (meaning 0x0D [] (take (l .mtu - 1) (drop offset b))))) (error 0x0C h 0x07))
-    (v .reading))
-    (error 0x0C h 0x01)
+unfoldable pub blobReply : List View → Link → ℕ → ℕ → Reply
+blobReply vs l h offset = viewAt h (λ v. reading 0x0C h (blobTold l h offset) (v .reading)) (error 0x0C h 0x01) vs
 
 unfoldable pub writing : ℕ → List ℕ → Writing → Reply
 writing h d (UpTo capacity) = pick (leb (length d) capacity) (doing (Packet (meaning 0x13 [] [])) (Stores h d)) (error 0x12 h 0x0D)
 writing h d (NoWrite code) = error 0x12 h code
 
 unfoldable pub write : List View → ℕ → List ℕ → Reply
-write vs h d = at h vs (λ v. writing h d (v .writing)) (error 0x12 h 0x01)
+write vs h d = viewAt h (λ v. writing h d (v .writing)) (error 0x12 h 0x01) vs
 
--- A search over the attributes of a range: what each gives to it, and the list that comes of it. A first one that fails is the
--- answer; after that the list ends at one that fails, at an item of another length than the first's, and at one that does not fit.
+-- A search over the attributes of a range, in order. Each gives it nothing, an item, or the handle and the code that reading it is
+-- refused with.
 pub data Part : Type 0 where
   Skip : Part
   Take : List ℕ → Part
-  Fail : ℕ → Part
+  Fail : ℕ → ℕ → Part
 
+-- What comes of it: nothing, a first one that fails, or a list of items, each as long as the first.
 pub data Found : Type 0 where
   None : Found
   Failed : ℕ → ℕ → Found
   Listed : ℕ → List (List ℕ) → Found
 
-unfoldable pub moreBy : Part → ℕ → ℕ → (ℕ → List (List ℕ)) → List (List ℕ)
-moreBy Skip n room k = k room
-moreBy (Take b) n room k = pick (eqb (length b) n && leb n room) (b ∷ k (room - n)) []
-moreBy (Fail code) n room k = []
+-- The items behind the first, of `n` bytes each. The list ends before one that fails, one of another length, and one that does not
+-- fit into the room that is left.
+unfoldable pub more : ℕ → ℕ → List Part → List (List ℕ)
+more n room [] = []
+more n room (Skip ∷ ps) = more n room ps
+more n room (Take b ∷ ps) = pick (eqb (length b) n && leb n room) (b ∷ more n (room - n) ps) []
+more n room (Fail h code ∷ ps) = []
 
-unfoldable pub more : (View → Part) → ℕ → List View → ℕ → List (List ℕ)
-more f n [] room = []
-more f n (v ∷ vs) room = moreBy (f v) n room (more f n vs)
-
-unfoldable pub searchBy : Part → (View → Part) → ℕ → ℕ → List View → Found → Found
-searchBy Skip f room h vs next = next
-searchBy (Take b) f room h vs next = Listed (length b) (b ∷ more f (length b) vs (room - length b))
-searchBy (Fail code) f room h vs next = Failed h code
-
-unfoldable pub search : (View → Part) → ℕ → List View → Found
-search f room [] = None
-search f room (v ∷ vs) = searchBy (f v) f room (v .handle) vs (search f room vs)
+unfoldable pub search : ℕ → List Part → Found
+search room [] = None
+search room (Skip ∷ ps) = search room ps
+search room (Take b ∷ ps) = Listed (length b) (b ∷ more (length b) (room - length b) ps)
+search room (Fail h code ∷ ps) = Failed h code
 
 abbrev pub keep : {A : Type 0} → (A → Bool) → List A → List A
 keep f [] = []
 keep f (x ∷ xs) = pick (f x) (x ∷ keep f xs) (keep f xs)
 
-unfoldable pub within : ℕ → ℕ → List View → List View
-within from to vs = keep (λ v. leb from (v .handle) && leb (v .handle) to) vs
+unfoldable pub inRange : ℕ → ℕ → List View → List View
+inRange from to vs = keep (λ v. leb from (v .handle) && leb (v .handle) to) vs
 
--- "start 0 or above end, error 01 with start; nothing found, 0A with start." `head` has the opcode and the fixed fields of the
--- answer, told by the length of an item.
+-- "start 0 or above end, error 01 with start; nothing found, 0A with start." `answer` makes the packet of the length of an item and
+-- of the items joined; `f` tells what an attribute gives.
 unfoldable pub rangeOk : ℕ → ℕ → Bool
 rangeOk from to = leb 1 from && leb from to
 
@@ -126,7 +123,7 @@ listing op from answer (Listed n is) = only (Packet (answer n (joined is)))
 
 unfoldable pub searched : ℕ → List View → ℕ → ℕ → ℕ → (ℕ → List ℕ → Meaning) → (View → Part) → Reply
 searched op vs room from to answer f =
-    pick (rangeOk from to) (listing op from answer (search f room (within from to vs))) (error op from 0x01)
+    pick (rangeOk from to) (listing op from answer (search room (map f (inRange from to vs)))) (error op from 0x01)
 
 -- "for types 2800 and 2801 the handle of the last record before the next one of either type, or the table's last record"
 unfoldable pub groups : List ℕ → Bool
@@ -161,13 +158,13 @@ unfoldable pub holds : Reading → List ℕ → Bool
 holds (Value b) value = same b value
 holds (NoRead code) value = false
 
-unfoldable pub endOf : List View → List ℕ → ℕ → ℕ
-endOf vs kind h = pick (groups kind) (groupEnd (outlines vs) h) h
+unfoldable pub endOf : List Outline → List ℕ → ℕ → ℕ
+endOf os kind h = pick (groups kind) (groupEnd os h) h
 
 unfoldable pub pair : List View → List ℕ → List ℕ → View → Part
 pair vs kind value v =
     pick (equalTypes (v .kind) kind && holds (v .reading) value)
-    (Take (bytesOf 2 (v .handle) ++ bytesOf 2 (endOf vs kind (v .handle))))
+    (Take (bytesOf 2 (v .handle) ++ bytesOf 2 (endOf (outlines vs) kind (v .handle))))
     Skip
 
 unfoldable pub pairs : ℕ → List ℕ → Meaning
@@ -178,12 +175,12 @@ findByTypeValue vs l from to kind value = searched 0x06 vs (l .mtu - 1) from to 
 
 -- "08 and 10 take matching types in order. A first match the link may not read gives 02 or 0F with its handle; a later one ends the
 -- list. Values are cut to MTU - 4 (08) or MTU - 6 (10); the list ends at another length or a full packet. 10 adds the group end."
-unfoldable pub valued : Reading → List ℕ → ℕ → Part
-valued (Value b) front n = Take (front ++ take n b)
-valued (NoRead code) front n = Fail code
+unfoldable pub valuePart : ℕ → Reading → List ℕ → ℕ → Part
+valuePart h (Value b) front n = Take (front ++ take n b)
+valuePart h (NoRead code) front n = Fail h code
 
 unfoldable pub typed : Link → List ℕ → View → Part
-typed l kind v = pick (equalTypes (v .kind) kind) (valued (v .reading) (bytesOf 2 (v .handle)) (l .mtu - 4)) Skip
+typed l kind v = pick (equalTypes (v .kind) kind) (valuePart (v .handle) (v .reading) (bytesOf 2 (v .handle)) (l .mtu - 4)) Skip
 
 unfoldable pub values : ℕ → List ℕ → Meaning
 values n is = meaning 0x09 (n ∷ []) is
@@ -194,7 +191,7 @@ readByType vs l from to kind = searched 0x08 vs (l .mtu - 2) from to values (typ
 unfoldable pub grouped : List View → Link → List ℕ → View → Part
 grouped vs l kind v =
     pick (equalTypes (v .kind) kind)
-    (valued (v .reading) (bytesOf 2 (v .handle) ++ bytesOf 2 (groupEnd (outlines vs) (v .handle))) (l .mtu - 6))
+    (valuePart (v .handle) (v .reading) (bytesOf 2 (v .handle) ++ bytesOf 2 (groupEnd (outlines vs) (v .handle))) (l .mtu - 6))
     Skip
 
 unfoldable pub groupValues : ℕ → List ℕ → Meaning
@@ -220,8 +217,8 @@ served vs l ns t =
     ∷ (0x04, Serves (findInformation vs l (nth ns 0) (nth ns 1)))
     ∷ (0x06, Serves (findByTypeValue vs l (nth ns 0) (nth ns 1) (nth ns 2) t))
     ∷ (0x08, Serves (readByType vs l (nth ns 0) (nth ns 1) t))
-    ∷ (0x0A, Serves (read vs l (nth ns 0)))
-    ∷ (0x0C, Serves (blob vs l (nth ns 0) (nth ns 1)))
+    ∷ (0x0A, Serves (readReply vs l (nth ns 0)))
+    ∷ (0x0C, Serves (blobReply vs l (nth ns 0) (nth ns 1)))
     ∷ (0x10, Serves (readByGroupType vs l (nth ns 0) (nth ns 1) t))
     ∷ (0x12, Serves (write vs (nth ns 0) t))
     ∷ []
@@ -247,18 +244,22 @@ silent op = eqb (op % 2) 1 || (eqb op 0x1E || eqb (op / 64 % 2) 1)
 abbrev pub quietly : Reply → Reply
 quietly r = doing Silence (r .effect)
 
+unfoldable pub commanded : List View → List ℕ → List ℕ → Reply
+commanded vs ns t = quietly (write vs (nth ns 0) t)
+
 unfoldable pub command : List View → Link → ℕ → List ℕ → Reply
 command vs l op p =
     let m = shapeMeans op (shapeOf op) p in
-    pick (eqb op 0x52 && (strict (op ∷ p) && leb (length (op ∷ p)) (l .mtu))) (quietly (write vs (nth (m .numbers) 0) (m .tail))) (only Silence)
+    pick (eqb op 0x52 && (strict (op ∷ p) && leb (length (op ∷ p)) (l .mtu))) (commanded vs (m .numbers) (m .tail)) (only Silence)
 
+-- The reply to a packet of at least one byte.
 unfoldable pub replyTo : List View → Link → List ℕ → Reply
-replyTo vs l [] = only (Refuses InvalidValue)
+replyTo vs l [] = only Silence
 replyTo vs l (op ∷ p) = pick (silent op) (command vs l op p) (request vs l op p)
 
--- "Serving tests 11, 12, 1, 2": the table is tested where it is known; then the link, the output, and the packet.
-unfoldable pub linkOk : Link → Bool
-linkOk l = leb 23 (l .mtu) && leb (l .mtu) 247
+-- A legal MTU; and a sound link has one.
+unfoldable pub mtuOk : ℕ → Bool
+mtuOk mtu = leb 23 mtu && leb mtu 247
 
-unfoldable pub reply : List View → Link → List ℕ → ℕ → Reply
-reply vs l p room = pick (linkOk l) (pick (leb (l .mtu) room) (replyTo vs l p) (only (Refuses InsufficientSpace))) (only (Refuses BadLink))
+unfoldable pub linkOk : Link → Bool
+linkOk l = mtuOk (l .mtu)

@@ -1,21 +1,23 @@
 -- Document 01, "How a packet is served": the responder and the till's own store as functions of a state, and sequences of them.
 use Prim.Native.Nat.{ℕ}
-use mathlib.Core.Bool.{Bool, true}
+use mathlib.Core.Bool.{Bool, true, false}
 use mathlib.Core.List.{List, [], _∷_, _++_}
 use lib.ListN.{length}
 use lib.Dec.{leb}
 use Rattle.codec.specs.Cases.{pick}
 use Rattle.codec.specs.declared.Refusal.{Refusal}
-use Rattle.codec.specs.declared.Refusal.the-variants.{BadTable}
-use Rattle.att.specs.Wire.{Meaning, Coded, Sent, NotSent, send, first}
+use Rattle.codec.specs.declared.Refusal.the-variants.{InsufficientSpace, InvalidValue, BadTable, BadLink}
+use Rattle.att.specs.Wire.{Coded, Sent, NotSent, send, first}
 use Rattle.attributes.specs.Records.{entries}
 use Rattle.attributes.specs.Soundness.{soundTable}
-use Rattle.attributes.specs.Ledger.{Item, itemsOf}
+use Rattle.attributes.specs.Ledger.{Item, ledgerOf}
 use Rattle.attributes.specs.Stores.{relengthed, writtenLive, stored, storedLive, ownRefusal}
+use Rattle.attributes.specs.Additions.{tested}
 use Rattle.attributes.specs.declared.Outcome.{Outcome}
+use Rattle.attributes.specs.declared.Outcome.the-variants as outcome
 use Rattle.attributes.specs.declared.Table.{Table}
 use Rattle.answers.specs.View.{View, viewsOf}
-use Rattle.answers.specs.Replies.{Says, Packet, Silence, Refuses, Effect, Nothing, Stores, Agrees, Reply, reply, errorPacket}
+use Rattle.answers.specs.Replies.{Says, Packet, Silence, Effect, Nothing, Stores, Agrees, errorPacket, replyTo, linkOk}
 use Rattle.answers.specs.declared.Link.{Link}
 
 -- The till's state: the table, the link's record, and the two areas.
@@ -29,7 +31,7 @@ unfoldable pub sound : State → Bool
 sound s = soundTable (s .table) (length (s .fixed)) (length (s .live))
 
 unfoldable pub ledger : State → List Item
-ledger s = itemsOf (s .table) (s .fixed) (s .live)
+ledger s = ledgerOf (s .table) (s .fixed) (s .live)
 
 abbrev pub views : State → List View
 views s = viewsOf (s .link .encrypted) (ledger s)
@@ -61,11 +63,11 @@ pub data Heard : Type 0 where
   Silent : Heard
   Refused : Refusal → Heard
 
-pub record Served : Type 0 where
+pub record Turn : Type 0 where
   pub heard : Heard
   pub state : State
 
-abbrev pub serving : Heard → State → Served
+abbrev pub serving : Heard → State → Turn
 serving h s = record { heard = h; state = s }
 
 -- "If the encoder refuses inside the responder, answer error 0E with handle 0": nothing is stored or changed then.
@@ -76,20 +78,53 @@ coded NotSent = []
 unfoldable pub unlikely : ℕ → List ℕ
 unlikely op = coded (send (errorPacket op 0 0x0E))
 
-unfoldable pub encodedBy : Coded → ℕ → ℕ → Effect → State → Served
-encodedBy (Sent b) op room e s = pick (leb (length b) room) (serving (Bytes b) (changed s e)) (serving (Bytes (unlikely op)) s)
-encodedBy NotSent op room e s = serving (Bytes (unlikely op)) s
+-- What a device hears of a reply, and the effect that takes place.
+abbrev pub codedHeard : Coded → ℕ → ℕ → Heard
+codedHeard (Sent b) op room = pick (leb (length b) room) (Bytes b) (Bytes (unlikely op))
+codedHeard NotSent op room = Bytes (unlikely op)
 
-unfoldable pub saidBy : Says → ℕ → ℕ → Effect → State → Served
-saidBy (Packet m) op room e s = encodedBy (send m) op room e s
-saidBy Silence op room e s = serving Silent (changed s e)
-saidBy (Refuses r) op room e s = serving (Refused r) s
+abbrev pub codedDoes : Coded → ℕ → Effect → Effect
+codedDoes (Sent b) room e = pick (leb (length b) room) e Nothing
+codedDoes NotSent room e = Nothing
+
+abbrev pub spoken : Says → ℕ → ℕ → Heard
+spoken (Packet m) op room = codedHeard (send m) op room
+spoken Silence op room = Silent
+
+abbrev pub does : Says → ℕ → Effect → Effect
+does (Packet m) room e = codedDoes (send m) room e
+does Silence room e = e
+
+-- "Serving tests 11, 12, 1, 2": the table, the link, the output, and the packet.
+abbrev pub serveTests : State → List ℕ → ℕ → List (Bool × Refusal)
+serveTests s p room =
+    (sound s, BadTable)
+    ∷ (linkOk (s .link), BadLink)
+    ∷ (leb (s .link .mtu) room, InsufficientSpace)
+    ∷ (leb 1 (length p), InvalidValue)
+    ∷ []
+
+unfoldable pub serveRefusal : State → List ℕ → ℕ → Outcome
+serveRefusal s p room = tested (serveTests s p room)
+
+-- What the device hears of a packet, and what the packet asks for: a refusal asks for nothing.
+abbrev pub heardBy : Outcome → Heard → Heard
+heardBy outcome.Accepted h = h
+heardBy (outcome.Refused why) h = Refused why
+
+abbrev pub effectBy : Outcome → Effect → Effect
+effectBy outcome.Accepted e = e
+effectBy (outcome.Refused why) e = Nothing
+
+unfoldable pub answered : State → List ℕ → ℕ → Heard
+answered s p room = heardBy (serveRefusal s p room) (spoken (replyTo (views s) (s .link) p .says) (first p) room)
+
+unfoldable pub asks : State → List ℕ → ℕ → Effect
+asks s p room = let r = replyTo (views s) (s .link) p in effectBy (serveRefusal s p room) (does (r .says) room (r .effect))
 
 -- the responder: one packet into an output of `room` bytes
-unfoldable pub serve : State → List ℕ → ℕ → Served
-serve s p room =
-    let r = reply (views s) (s .link) p room in
-    pick (sound s) (saidBy (r .says) (first p) room (r .effect) s) (serving (Refused BadTable) s)
+unfoldable pub serve : State → List ℕ → ℕ → Turn
+serve s p room = serving (answered s p room) (changed s (asks s p room))
 
 -- the till's own store: its refusal, and the state after it
 unfoldable pub ownOutcome : State → ℕ → List ℕ → Outcome
@@ -108,6 +143,10 @@ pub data Step : Type 0 where
   Send : List ℕ → ℕ → Step
   Store : ℕ → List ℕ → Step
   Encrypt : Bool → Step
+
+-- "A link has an MTU (23 at first), a mark that the exchange was made, and encrypted or not."
+abbrev pub firstLink : Bool → Link
+firstLink encrypted = record { mtu = 23; exchanged = false; encrypted = encrypted }
 
 abbrev pub encrypting : Link → Bool → Link
 encrypting l e = record { mtu = l .mtu; exchanged = l .exchanged; encrypted = e }

@@ -1,4 +1,5 @@
 pub mod FieldBytes
 pub mod NoShift
+pub mod Proper
 pub mod RoundTrip
 pub mod TypedMeans

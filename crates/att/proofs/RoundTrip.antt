@@ -11,7 +11,7 @@ use borrow.Author.Tests.{le-leb, leb-true, eqb-true}
 use Rattle.codec.specs.Cases.{pick, lookup}
 use Rattle.codec.specs.CasesLaws.{both, join}
 use Rattle.primitives.specs.Numbers.{Octets}
-use Rattle.att.specs.Wire.{Tail, Ends, Rest, Handles, AUuid, Items, NoPacket, Shape, shape, rows, shapeOf, total, numbers, tailDecodes, shapeDecodes, decodes, tailStrict, shapeStrict, strict, Meaning, meaning, keptTail, shapeMeans, Read, Means, NotRead, read, whole, sentTail, sentFields, Coded, Sent, NotSent, shapeSends, send, trimmed}
+use Rattle.att.specs.Wire.{Tail, Ends, Rest, Handles, AUuid, Items, NoPacket, Shape, shape, rows, shapeOf, total, numbers, tailDecodes, shapeDecodes, decodes, tailStrict, shapeStrict, strict, Meaning, meaning, keptTail, shapeMeans, Read, Means, NotRead, read, whole, sentTail, sentFields, Coded, Sent, NotSent, shapeSends, send, resent, trimmed}
 use Rattle.att.specs.Proper.{Fields, Proper}
 use Rattle.att.proofs.FieldBytes.{length-sent, numbers-sent, sent-numbers}
 
@@ -97,11 +97,6 @@ shape-again op s p o d h =
     let k = kept-decodes (s .tail) ns r (both (tailDecodes (s .tail) ns r) _ d .0) in
     let l = leb-true (total (s .fields)) (length p) (e .1) in
     rw (k, strict-tail (s .tail) ns r (e .0), sent-numbers (s .fields) 0 p (omega arith) o, take-append-drop (total (s .fields)) p)
-
--- decoding and then encoding
-abbrev pub resent : Read → Coded
-resent (Means m) = send m
-resent NotRead = NotSent
 
 -- DEMAND 2: a strict packet, decoded and encoded, gives the same bytes.
 pub strict-round-trip : (src : List ℕ) → Octets src → strict src ≡ true → resent (read src) ≡ Sent src

@@ -6,25 +6,27 @@ use mathlib.Core.Path.{_≡_, refl, sym, ap, _∙_}
 use mathlib.Core.List.{List, [], _∷_}
 use native.Mathlib.Numerals.{add-one}
 use native.Mathlib.Omega.{arith}
-use lib.Dec.{eqb}
+use lib.Dec.{leb, eqb}
 use lib.ListN.{length, take, drop, length-drop}
 use lib.Seq.{take-all}
 use borrow.Author.Tests.{eqb-true, leb-true, le-leb, lt-ltb}
 use Rattle.codec.specs.Cases.{pick, lookup}
-use Rattle.codec.specs.CasesLaws.{both, join}
-use Rattle.primitives.specs.Numbers.{Octets}
+use Rattle.codec.specs.CasesLaws.{impossible, both, join}
+use Rattle.primitives.specs.Numbers.{numberAt, Octets}
 use Rattle.uuid.specs.Uuids.{onAir, widthOf, uuidOf}
 use Rattle.uuid.specs.UuidsLaws.{sliced-formed, own-sliced, on-air-own}
 use Rattle.uuid.specs.declared.Form.{Form}
-use Rattle.uuid.specs.declared.Form.the-variants.{Uuid16, Uuid32, Uuid128}
+use Rattle.uuid.specs.declared.Form.the-variants as form
 use Rattle.uuid.specs.declared.Sliced.{Sliced}
 use Rattle.uuid.specs.declared.Uuid.{Uuid}
-use Rattle.att.specs.Wire.{Tail, Ends, Rest, Handles, AUuid, Items, NoPacket, Shape, shape, rows, shapeOf, total, numbers, uuidLength, tailDecodes, shapeDecodes, decodes, Meaning, meaning, keptTail, shapeMeans, Read, Means, NotRead, read, strict, Coded, Sent, NotSent, send}
-use Rattle.att.specs.Typed.{Build, builds, buildOf, refusedBuild, behind, uuidIn, shapeBuilds, refusal, rowDecoded, decoded, Shown, shown, span, showAtt, partOf, partOk, tailOf, meansShown, countable, encodedShown, encoded, readOf}
-use Rattle.att.proofs.RoundTrip.{strict-decodes, strict-round-trip, resent}
+use Rattle.att.specs.Wire.{Tail, Ends, Rest, Handles, AUuid, Items, byFormat, NoPacket, Shape, shape, rows, shapeOf, total, numbers, uuidLength, tailDecodes, shapeDecodes, decodes, Meaning, meaning, keptTail, shapeMeans, Read, Means, NotRead, read, strict, Coded, Sent, NotSent, send, resent}
+use Rattle.att.specs.Typed.{Build, builds, buildOf, refusedBuild, behind, uuidIn, shapeBuilds, refusal, rowDecoded, decoded, Shown, shown, span, showAtt, partOf, partOk, tailOf, meansShown, countable, encodedShown, encoded, encodedAgain, readOf}
+use Rattle.att.proofs.RoundTrip.{strict-decodes, strict-round-trip}
+use Rattle.att.specs.Formats.{formatNumber, formatOf}
+use Rattle.att.specs.declared.FindInformationUuidFormat.the-variants.{Uuid16, Uuid128}
 use Rattle.att.specs.declared.Span.{Span}
-use Rattle.att.specs.declared.Answer.{Answer}
-use Rattle.att.specs.declared.Answer.the-variants.{Packet, Refused}
+use Rattle.att.specs.declared.Parsed.{Parsed}
+use Rattle.att.specs.declared.Parsed.the-variants.{Packet, Refused}
 
 -- the range that a typed packet shows: that of its data, or an empty one
 abbrev ranged : Tail → Span → Span
@@ -35,12 +37,12 @@ ranged AUuid d = span 0 0
 ranged (Items each least) d = d
 ranged NoPacket d = span 0 0
 
-abbrev ShownBy : ℕ → Tail → List ℕ → Span → Answer → Type 0
+abbrev ShownBy : ℕ → Tail → List ℕ → Span → Parsed → Type 0
 ShownBy op t ns d (Packet a) = showAtt a ≡ shown op ns (ranged t d)
 ShownBy op t ns d (Refused e) = ⊥
 
 abbrev Fine : ℕ → Shape → Build → Type 0
-Fine op s b = (p : List ℕ) (d : Span) → ShownBy op (s .tail) (numbers 0 (s .fields) p) d (b (numbers 0 (s .fields) p) d)
+Fine op s b = (p : List ℕ) (d : Span) → shapeDecodes s p ≡ true → ShownBy op (s .tail) (numbers 0 (s .fields) p) d (b (numbers 0 (s .fields) p) d)
 
 abbrev Agree : List (ℕ × Shape) → List (ℕ × Build) → Type 0
 Agree [] [] = Unit
@@ -48,104 +50,119 @@ Agree [] (b ∷ bs) = ⊥
 Agree (r ∷ rs) [] = ⊥
 Agree (r ∷ rs) (b ∷ bs) = (r .0 ≡ b .0) × (Fine (r .0) (r .1) (b .1) × Agree rs bs)
 
+-- the format of a packet that decodes is one of the two
+format-back : (n : ℕ) → leb 2 (byFormat (n ∷ [])) ≡ true → formatNumber (formatOf n) ≡ n
+format-back n h = by (eqb n 1) refl (eqb n 2) refl h where
+  by : (x : Bool) → eqb n 1 ≡ x → (y : Bool) → eqb n 2 ≡ y → leb 2 (pick x 4 (pick y 18 0)) ≡ true → formatNumber (pick y Uuid128 Uuid16) ≡ n
+  by true e true f k = sym (eqb-true n 2 f)
+  by true e false f k = sym (eqb-true n 1 e)
+  by false e true f k = sym (eqb-true n 2 f)
+  by false e false f k = let z : _≡_ {A = Bool} false true = k in impossible (cc)
+
+shows-format : (p : List ℕ) (d : Span) → shapeDecodes (shape (1 ∷ []) (Items byFormat 2)) p ≡ true
+    → shown 0x05 (formatNumber (formatOf (numberAt 1 0 p)) ∷ []) d ≡ shown 0x05 (numberAt 1 0 p ∷ []) d
+shows-format p d h =
+    ap (λ (n : ℕ). shown 0x05 (n ∷ []) d)
+    (format-back (numberAt 1 0 p) (both (leb 2 (byFormat (numberAt 1 0 p ∷ []))) (leb 1 (length p)) h .0))
+
 agree : Agree rows builds
 unfolding rows builds
 agree = (
   refl,
   (
-    λ p d. refl,
+    λ p d h. refl,
     (
       refl,
       (
-        λ p d. refl,
+        λ p d h. refl,
         (
           refl,
           (
-            λ p d. refl,
+            λ p d h. refl,
             (
               refl,
               (
-                λ p d. refl,
+                λ p d h. refl,
                 (
                   refl,
                   (
-                    λ p d. refl,
+                    λ p d h. shows-format p d h,
                     (
                       refl,
                       (
-                        λ p d. refl,
+                        λ p d h. refl,
                         (
                           refl,
                           (
-                            λ p d. refl,
+                            λ p d h. refl,
                             (
                               refl,
                               (
-                                λ p d. refl,
+                                λ p d h. refl,
                                 (
                                   refl,
                                   (
-                                    λ p d. refl,
+                                    λ p d h. refl,
                                     (
                                       refl,
                                       (
-                                        λ p d. refl,
+                                        λ p d h. refl,
                                         (
                                           refl,
                                           (
-                                            λ p d. refl,
+                                            λ p d h. refl,
                                             (
                                               refl,
                                               (
-                                                λ p d. refl,
+                                                λ p d h. refl,
                                                 (
                                                   refl,
                                                   (
-                                                    λ p d. refl,
+                                                    λ p d h. refl,
                                                     (
                                                       refl,
                                                       (
-                                                        λ p d. refl,
+                                                        λ p d h. refl,
                                                         (
                                                           refl,
                                                           (
-                                                            λ p d. refl,
+                                                            λ p d h. refl,
                                                             (
                                                               refl,
                                                               (
-                                                                λ p d. refl,
+                                                                λ p d h. refl,
                                                                 (
                                                                   refl,
                                                                   (
-                                                                    λ p d. refl,
+                                                                    λ p d h. refl,
                                                                     (
                                                                       refl,
                                                                       (
-                                                                        λ p d. refl,
+                                                                        λ p d h. refl,
                                                                         (
                                                                           refl,
                                                                           (
-                                                                            λ p d. refl,
+                                                                            λ p d h. refl,
                                                                             (
                                                                               refl,
                                                                               (
-                                                                                λ p d. refl,
+                                                                                λ p d h. refl,
                                                                                 (
                                                                                   refl,
                                                                                   (
-                                                                                    λ p d. refl,
+                                                                                    λ p d h. refl,
                                                                                     (
                                                                                       refl,
                                                                                       (
-                                                                                        λ p d. refl,
+                                                                                        λ p d h. refl,
                                                                                         (
                                                                                           refl,
                                                                                           (
-                                                                                            λ p d. refl,
+                                                                                            λ p d h. refl,
                                                                                             (
                                                                                               refl,
                                                                                               (
-                                                                                                λ p d. refl,
+                                                                                                λ p d h. refl,
                                                                                                 tt,
                                                                                               ),
                                                                                             ),
@@ -202,16 +219,16 @@ FineWhere op s b = (p : List ℕ) (d : Span) → shapeDecodes s p ≡ true → S
 
 agree-at : (op : ℕ) (rs : List (ℕ × Shape)) (bs : List (ℕ × Build)) → Agree rs bs
     → FineWhere op (lookup op rs (shape [] NoPacket)) (lookup op bs refusedBuild)
-agree-at op [] [] g = λ p d h. let z : _≡_ {A = Bool} false true = h in absurd (let y : _≡_ {A = ℕ} 0 1 = cc in omega arith)
+agree-at op [] [] g = λ p d h. let z : _≡_ {A = Bool} false true = h in impossible (cc)
 agree-at op [] (b ∷ bs) g = absurd g
 agree-at op (r ∷ rs) [] g = absurd g
 agree-at op (r ∷ rs) (b ∷ bs) g = by (eqb op (r .0)) refl (eqb op (b .0)) (ap (eqb op) (g .0)) (agree-at op rs bs (g .1 .1)) where
   by : (x : Bool) → eqb op (r .0) ≡ x → (y : Bool) → eqb op (r .0) ≡ y
       → FineWhere op (lookup op rs (shape [] NoPacket)) (lookup op bs refusedBuild)
       → FineWhere op (pick x (r .1) (lookup op rs (shape [] NoPacket))) (pick y (b .1) (lookup op bs refusedBuild))
-  by true e true f rest = λ p d h. rw (eqb-true op (r .0) e) (g .1 .0 p d)
-  by true e false f rest = absurd (let z : _≡_ {A = ℕ} 0 1 = cc in omega arith)
-  by false e true f rest = absurd (let z : _≡_ {A = ℕ} 0 1 = cc in omega arith)
+  by true e true f rest = λ p d h. rw (eqb-true op (r .0) e) (g .1 .0 p d h)
+  by true e false f rest = impossible (cc)
+  by false e true f rest = impossible (cc)
   by false e false f rest = rest
 
 -- the bytes behind the fixed fields are those of the range, or of the UUID
@@ -219,7 +236,7 @@ behind-part : (k op : ℕ) (p : List ℕ) → partOf (behind k p) (op ∷ p) ≡
 behind-part k op p = rw (add-one k) (take-all (length p - k) (drop k p) (simp length-drop (omega arith)))
 
 -- a UUID of 2 or 16 bytes is carried in the bytes that it was read from
-air-of : (f : Form) (r : List ℕ) → (f ≡ Uuid32 → ⊥) → length r ≡ widthOf f → onAir (uuidOf r) ≡ r
+air-of : (f : Form) (r : List ℕ) → (f ≡ form.Uuid32 → ⊥) → length r ≡ widthOf f → onAir (uuidOf r) ≡ r
 air-of f r n e =
     let g : uuidOf r .form ≡ f = ap (λ (s : Sliced). s .uuid .form) (sliced-formed f r e) in
     on-air-own (uuidOf r) (λ x. n (sym g ∙ x)) ∙ own-sliced f r e
@@ -227,8 +244,8 @@ air-of f r n e =
 air-back : (r : List ℕ) → uuidLength (length r) ≡ true → onAir (uuidOf r) ≡ r
 air-back r h = by (eqb (length r) 2) refl h where
   by : (x : Bool) → eqb (length r) 2 ≡ x → (x || eqb (length r) 16) ≡ true → onAir (uuidOf r) ≡ r
-  by true e k = air-of Uuid16 r (λ z. let y : _≡_ {A = ℕ} 0 1 = cc in omega arith) (eqb-true (length r) 2 e)
-  by false e k = air-of Uuid128 r (λ z. let y : _≡_ {A = ℕ} 0 1 = cc in omega arith) (eqb-true (length r) 16 k)
+  by true e k = air-of form.Uuid16 r (λ z. impossible (cc)) (eqb-true (length r) 2 e)
+  by false e k = air-of form.Uuid128 r (λ z. impossible (cc)) (eqb-true (length r) 16 k)
 
 tail-same : (t : Tail) (k op : ℕ) (p ns : List ℕ) → tailDecodes t ns (drop k p) ≡ true
     → tailOf t (uuidIn t (drop k p)) (partOf (ranged t (behind k p)) (op ∷ p)) ≡ keptTail t (drop k p)
@@ -239,7 +256,7 @@ tail-same AUuid k op p ns h = air-back (drop k p) h
 tail-same (Items each least) k op p ns h = behind-part k op p
 tail-same NoPacket k op p ns h = refl
 
-answer-means : (op : ℕ) (p : List ℕ) (u : Uuid) (a : Answer) (ns : List ℕ) (d : Span) (t : Tail) → ShownBy op t ns d a → t ≡ shapeOf op .tail
+answer-means : (op : ℕ) (p : List ℕ) (u : Uuid) (a : Parsed) (ns : List ℕ) (d : Span) (t : Tail) → ShownBy op t ns d a → t ≡ shapeOf op .tail
     → readOf a u (op ∷ p) ≡ Means (meaning op ns (tailOf t u (partOf (ranged t d) (op ∷ p))))
 unfolding meansShown
 answer-means op p u (Packet a) ns d t h e = rw (h, e)
@@ -281,11 +298,7 @@ part-ok t k op p h = by t where
   by (Items each least) = some
   by NoPacket = none
 
-abbrev pub encodedAgain : Answer → Uuid → List ℕ → Coded
-encodedAgain (Packet a) u src = encoded a u src
-encodedAgain (Refused e) u src = NotSent
-
-answer-encodes : (op : ℕ) (p : List ℕ) (u : Uuid) (a : Answer) (ns : List ℕ) (d : Span) (t : Tail) → ShownBy op t ns d a → t ≡ shapeOf op .tail
+answer-encodes : (op : ℕ) (p : List ℕ) (u : Uuid) (a : Parsed) (ns : List ℕ) (d : Span) (t : Tail) → ShownBy op t ns d a → t ≡ shapeOf op .tail
     → partOk (ranged t d) (op ∷ p) ≡ true
     → encodedAgain a u (op ∷ p) ≡ countable (send (meaning op ns (tailOf t u (partOf (ranged t d) (op ∷ p)))))
 unfolding encodedShown meansShown

@@ -1,3 +1,4 @@
+pub mod Formats
 pub mod Items
 pub mod Proper
 pub mod Typed

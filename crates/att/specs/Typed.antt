@@ -9,9 +9,11 @@ use Rattle.codec.specs.Buffer.{laid, written}
 use Rattle.codec.specs.Cases.{pick, lookup}
 use Rattle.codec.specs.declared.Error.the-variants.{InvalidValue}
 use Rattle.codec.specs.declared.Written.{Written}
-use Rattle.codec.specs.declared.Written.the-variants as written
+use Rattle.codec.specs.declared.Written.the-variants as wrote
+use Rattle.att_error.specs.declared.AttErrorCode.{AttErrorCode}
 use Rattle.uuid.specs.Uuids.{onAir, noUuid, uuidOf}
 use Rattle.uuid.specs.declared.Uuid.{Uuid}
+use Rattle.att.specs.Formats.{formatOf, formatNumber}
 use Rattle.att.specs.Wire.{Tail, Ends, Rest, Handles, AUuid, Items, NoPacket, Shape, shapeOf, total, numbers, decodes, Meaning, meaning, Read, Means, NotRead, Coded, Sent, NotSent, send}
 use Rattle.att.specs.declared.Span.{Span}
 use Rattle.att.specs.declared.AttReq.{AttReq}
@@ -29,11 +31,11 @@ use Rattle.att.specs.declared.AttServer.{AttServer}
 use Rattle.att.specs.declared.AttServer.the-variants.{Response, Unsolicited}
 use Rattle.att.specs.declared.Att.{Att}
 use Rattle.att.specs.declared.Att.the-variants.{Client, Server}
-use Rattle.att.specs.declared.Answer.{Answer}
-use Rattle.att.specs.declared.Answer.the-variants.{Packet, Refused}
+use Rattle.att.specs.declared.Parsed.{Parsed}
+use Rattle.att.specs.declared.Parsed.the-variants.{Packet, Refused}
 use Rattle.att.specs.declared.Decoded.{Decoded}
 use Rattle.att.specs.declared.Length.{Length}
-use Rattle.att.specs.declared.Length.the-variants as length
+use Rattle.att.specs.declared.Length.the-variants as counted
 
 abbrev pub span : ℕ → ℕ → Span
 span at n = record { at = at; len = n }
@@ -41,24 +43,28 @@ span at n = record { at = at; len = n }
 -- The packet of each opcode, made of the numbers of its fixed fields and the range of what follows them. Even opcodes are
 -- client, odd ones server.
 abbrev pub Build : Type 0
-Build = List ℕ → Span → Answer
+Build = List ℕ → Span → Parsed
 
 abbrev pub nth : List ℕ → ℕ → ℕ
 nth ns k = getD ns k 0
 
-abbrev pub request : AttReq → Answer
+-- the error code of a number
+abbrev pub code : ℕ → AttErrorCode
+code n = record { value = n }
+
+abbrev pub request : AttReq → Parsed
 request r = Packet (Client (Request r))
 
-abbrev pub response : AttRsp → Answer
+abbrev pub response : AttRsp → Parsed
 response r = Packet (Server (Response r))
 
 unfoldable pub builds : List (ℕ × Build)
 builds =
-    (0x01, λ ns d. response (rsp.Error (nth ns 0) (nth ns 1) (nth ns 2)))
+    (0x01, λ ns d. response (rsp.Error (nth ns 0) (nth ns 1) (code (nth ns 2))))
     ∷ (0x02, λ ns d. request (req.ExchangeMtu (nth ns 0)))
     ∷ (0x03, λ ns d. response (rsp.ExchangeMtu (nth ns 0)))
     ∷ (0x04, λ ns d. request (req.FindInformation (nth ns 0) (nth ns 1)))
-    ∷ (0x05, λ ns d. response (rsp.FindInformation (nth ns 0) d))
+    ∷ (0x05, λ ns d. response (rsp.FindInformation (formatOf (nth ns 0)) d))
     ∷ (0x06, λ ns d. request (req.FindByTypeValue (nth ns 0) (nth ns 1) (nth ns 2) d))
     ∷ (0x07, λ ns d. response (rsp.FindByTypeValue d))
     ∷ (0x08, λ ns d. request (req.ReadByType (nth ns 0) (nth ns 1)))
@@ -98,7 +104,7 @@ uuidIn AUuid r = uuidOf r
 uuidIn (Items each least) r = noUuid
 uuidIn NoPacket r = noUuid
 
-abbrev pub made : Answer → Uuid → Decoded
+abbrev pub made : Parsed → Uuid → Decoded
 made a u = record { answer = a; uuid = u }
 
 abbrev pub shapeBuilds : Shape → Build → List ℕ → Decoded
@@ -151,8 +157,8 @@ showClient (Confirmation c) = showCfm c
 abbrev pub showRsp : AttRsp → Shown
 showRsp (rsp.ExchangeMtu m) = fixed 0x03 (m ∷ [])
 showRsp (rsp.FindByTypeValue i) = shown 0x07 [] i
-showRsp (rsp.FindInformation f i) = shown 0x05 (f ∷ []) i
-showRsp (rsp.Error r h c) = fixed 0x01 (r ∷ h ∷ c ∷ [])
+showRsp (rsp.FindInformation f i) = shown 0x05 (formatNumber f ∷ []) i
+showRsp (rsp.Error r h c) = fixed 0x01 (r ∷ h ∷ c .value ∷ [])
 showRsp (rsp.ReadByType n i) = shown 0x09 (n ∷ []) i
 showRsp (rsp.ReadByGroupType n i) = shown 0x11 (n ∷ []) i
 showRsp (rsp.Read d) = shown 0x0B [] d
@@ -208,17 +214,22 @@ encoded a u src = encodedShown (showAtt a) u src
 -- What encoding and the size answer, and what the lent output holds afterwards: then room is tested (1).
 abbrev pub writtenOf : Coded → List ℕ → Written
 writtenOf (Sent b) out = written b out
-writtenOf NotSent out = written.Refused InvalidValue
+writtenOf NotSent out = wrote.Refused InvalidValue
 
 abbrev pub laidOf : Coded → List ℕ → List ℕ
 laidOf (Sent b) out = laid b out
 laidOf NotSent out = out
 
 abbrev pub lengthOf : Coded → Length
-lengthOf (Sent b) = length.Bytes (length b)
-lengthOf NotSent = length.Refused InvalidValue
+lengthOf (Sent b) = counted.Bytes (length b)
+lengthOf NotSent = counted.Refused InvalidValue
 
 -- What decoded bytes mean, as the wire has it.
-abbrev pub readOf : Answer → Uuid → List ℕ → Read
+abbrev pub readOf : Parsed → Uuid → List ℕ → Read
 readOf (Packet a) u src = Means (meaningOf a u src)
 readOf (Refused e) u src = NotRead
+
+-- What decoded bytes are encoded to over the bytes that they came in.
+abbrev pub encodedAgain : Parsed → Uuid → List ℕ → Coded
+encodedAgain (Packet a) u src = encoded a u src
+encodedAgain (Refused e) u src = NotSent

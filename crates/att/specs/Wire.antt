@@ -191,6 +191,11 @@ shapeSends s m =
 unfoldable pub send : Meaning → Coded
 send m = shapeSends (shapeOf (m .opcode)) m
 
+-- decoding and then encoding
+abbrev pub resent : Read → Coded
+resent (Means m) = send m
+resent NotRead = NotSent
+
 -- A packet without its incomplete last item: what its encoding carries.
 unfoldable pub trimmed : Meaning → Meaning
 trimmed m = meaning (m .opcode) (m .numbers) (sentTail (shapeOf (m .opcode) .tail) (m .numbers) (m .tail))

@@ -10,13 +10,13 @@ use Rattle.codec.specs.declared.Error.the-variants.{InvalidValue}
 use Rattle.att.specs.Wire.{Tail, tailDecodes}
 use Rattle.att.specs.Typed.{made, refusal, uuidIn, partOf, partOk}
 use Rattle.att.specs.declared.Span.{Span}
-use Rattle.att.specs.declared.Answer.{Answer}
+use Rattle.att.specs.declared.Parsed.{Parsed}
 use Rattle.att.specs.declared.Decoded.{Decoded}
 use Rattle.att.specs.declared.Length.{Length}
 use Rattle.att.specs.declared.Length.the-variants.{Bytes, Refused}
 
 -- the answer to a payload with `fixed` bytes of fields and then a tail, of which `ns` are the numbers of the fields
-abbrev pub answered : Tail → List ℕ → ℕ → List ℕ → Answer → Decoded
+abbrev pub answered : Tail → List ℕ → ℕ → List ℕ → Parsed → Decoded
 answered t ns fixed p a = pick (tailDecodes t ns (drop fixed p) && leb fixed (length p)) (made a (uuidIn t (drop fixed p))) refusal
 
 -- a data field's bytes, and their number: refused where its range does not lie within the received bytes

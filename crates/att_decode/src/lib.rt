@@ -1,39 +1,78 @@
 // att.rs, the decode half: received bytes to a typed packet.
 //
-// The dispatcher hands the payload behind the opcode to the reader of that opcode, which reads each field
-// at its place; places past the end read as 0. A payload too short for its fixed fields is then refused.
-use att::Answer;
+// The dispatcher hands the payload behind the opcode, and the bytes of a data field behind the fixed fields,
+// to the reader of that opcode (the crate att_rows). A payload too short for its fixed fields is refused.
+//
+// A port of src/att.rs of trouble-host 0.8.0, which was changed: see NOTICE.
+use att::ATT_ERROR_RSP;
+use att::ATT_EXCHANGE_MTU_REQ;
+use att::ATT_EXCHANGE_MTU_RSP;
+use att::ATT_EXECUTE_WRITE_REQ;
+use att::ATT_FIND_BY_TYPE_VALUE_REQ;
+use att::ATT_FIND_BY_TYPE_VALUE_RSP;
+use att::ATT_FIND_INFORMATION_REQ;
+use att::ATT_FIND_INFORMATION_RSP;
+use att::ATT_HANDLE_VALUE_CFM;
+use att::ATT_HANDLE_VALUE_IND;
+use att::ATT_HANDLE_VALUE_NTF;
+use att::ATT_PREPARE_WRITE_REQ;
+use att::ATT_READ_BLOB_REQ;
+use att::ATT_READ_BLOB_RSP;
+use att::ATT_READ_BY_GROUP_TYPE_REQ;
+use att::ATT_READ_BY_GROUP_TYPE_RSP;
+use att::ATT_READ_BY_TYPE_REQ;
+use att::ATT_READ_BY_TYPE_RSP;
+use att::ATT_READ_MULTIPLE_REQ;
+use att::ATT_READ_REQ;
+use att::ATT_READ_RSP;
+use att::ATT_WRITE_CMD;
+use att::ATT_WRITE_REQ;
+use att::ATT_WRITE_RSP;
 use att::Att;
 use att::AttCfm;
 use att::AttClient;
-use att::AttCmd;
 use att::AttReq;
 use att::AttRsp;
 use att::AttServer;
 use att::AttUns;
 use att::Decoded;
 use att::Length;
+use att::Parsed;
 use att::Span;
+use att_rows::error_rsp;
+use att_rows::exchange_mtu_req;
+use att_rows::exchange_mtu_rsp;
+use att_rows::execute_write_req;
+use att_rows::field;
+use att_rows::find_by_type_value_req;
+use att_rows::find_information_req;
+use att_rows::find_information_rsp;
+use att_rows::handle_value_ind;
+use att_rows::handle_value_ntf;
+use att_rows::prepare_write_req;
+use att_rows::read_by_group_type_req;
+use att_rows::read_by_group_type_rsp;
+use att_rows::read_by_type_req;
+use att_rows::read_by_type_rsp;
+use att_rows::read_req;
+use att_rows::write_cmd;
+use att_rows::write_req;
 use att_strict::item_len;
 use att_strict::pair_len;
 use codec::Error;
+use cursor::ReadU16;
+use cursor::remaining;
 use primitives::u8_at;
-use primitives::u16_at;
-use uuid::Form;
-use uuid::Uuid;
 ghost use mathlib.Core.Path.{_≡_};
 ghost use mathlib.Core.List.{[], _∷_};
-ghost use Prim.Native.Nat.{_≤_};
 ghost use Rattle.att.specs.Wire.{Rest, AUuid, Items, first, byFormat};
 ghost use Rattle.uuid.specs.Uuids.{uuidOf};
-ghost use Rattle.att.specs.Typed.{behind, made, request, response, refusal, rowDecoded, decoded};
+ghost use Rattle.att.specs.Typed.{made, request, response, refusal, rowDecoded, decoded};
 ghost use Rattle.primitives.specs.Numbers.{numberAt};
 ghost use Rattle.att.specs.declared.AttReq.the-variants as req;
-ghost use Rattle.att.specs.declared.AttRsp.the-variants as rsp;
-ghost use Rattle.att.specs.declared.AttUns.the-variants as uns;
 ghost use Rattle.att.specs.declared.AttServer.the-variants.{Unsolicited};
 ghost use Rattle.att.specs.declared.Att.the-variants.{Server};
-ghost use Rattle.att.specs.declared.Answer.the-variants.{Packet};
+ghost use Rattle.att.specs.declared.Parsed.the-variants.{Packet};
 ghost use Rattle.att_decode.specs.Tests.{answered, field, fieldLength};
 
 // What bytes decode to; what is no packet is refused with InvalidValue.
@@ -77,186 +116,72 @@ pub fn data_len(src: &[u8], d: Span) -> Length
     Length::Bytes(len)
 }
 
-// Opcode by opcode: how many bytes the fixed fields have, and the field or the reader of the fields.
+// Opcode by opcode: how many bytes the fixed fields have, and the reader of the row. A data field's reader is
+// handed the bytes behind the fixed fields.
 fn dispatch(op: u8, p: &[u8]) -> Decoded
     ensures { λ r. ⌜ r ≡ rowDecoded op (now (p .entry)) ⌝ }
 {
     match op {
-        0x01 => response_of(p, 4, error_rsp(p)),
-        0x02 => request_of(p, 2, AttReq::ExchangeMtu { mtu: u16_at(p, 0) }),
-        0x03 => response_of(p, 2, AttRsp::ExchangeMtu { mtu: u16_at(p, 0) }),
-        0x04 => request_of(p, 4, find_information_req(p)),
-        0x05 => pairs_of(p, find_information_rsp(p)),
-        0x06 => request_of(p, 6, find_by_type_value_req(p)),
-        0x07 => response_of(p, 0, AttRsp::FindByTypeValue { items: rest(p, 0) }),
-        0x08 => request_with_uuid(p, read_by_type_req(p)),
-        0x09 => items_of(p, read_by_type_rsp(p)),
-        0x0A => request_of(p, 2, read_req(p)),
-        0x0B => response_of(p, 0, AttRsp::Read { data: rest(p, 0) }),
-        0x0C => request_of(p, 4, read_blob_req(p)),
-        0x0D => response_of(p, 0, AttRsp::ReadBlob { data: rest(p, 0) }),
-        0x10 => request_with_uuid(p, read_by_group_type_req(p)),
-        0x11 => items_of(p, read_by_group_type_rsp(p)),
-        0x12 => request_of(p, 2, write_req(p)),
-        0x13 => response_of(p, 0, AttRsp::Write),
-        0x16 => request_of(p, 4, prepare_write_req(p)),
-        0x18 => request_of(p, 1, AttReq::ExecuteWrite { flags: u8_at(p, 0) }),
-        0x1B => unsolicited_of(p, 2, handle_value_ntf(p)),
-        0x1D => unsolicited_of(p, 2, handle_value_ind(p)),
-        0x1E => packet(
+        ATT_ERROR_RSP => response_of(p, 4, error_rsp(p)),
+        ATT_EXCHANGE_MTU_REQ => request_of(p, 2, exchange_mtu_req(p)),
+        ATT_EXCHANGE_MTU_RSP => response_of(p, 2, exchange_mtu_rsp(p)),
+        ATT_FIND_INFORMATION_REQ => request_of(p, 4, find_information_req(p)),
+        ATT_FIND_INFORMATION_RSP => pairs_of(p, find_information_rsp(p, remaining(1, p))),
+        ATT_FIND_BY_TYPE_VALUE_REQ => {
+            request_of(p, 6, find_by_type_value_req(p, remaining(6, p)))
+        }
+        ATT_FIND_BY_TYPE_VALUE_RSP => {
+            response_of(p, 0, AttRsp::FindByTypeValue { items: field(1, p) })
+        }
+        ATT_READ_BY_TYPE_REQ => request_with_uuid(p, read_by_type_req(p)),
+        ATT_READ_BY_TYPE_RSP => items_of(p, read_by_type_rsp(p, remaining(1, p))),
+        ATT_READ_REQ => request_of(p, 2, read_req(p)),
+        ATT_READ_RSP => response_of(p, 0, AttRsp::Read { data: field(1, p) }),
+        ATT_READ_BLOB_REQ => read_blob_of(p),
+        ATT_READ_BLOB_RSP => response_of(p, 0, AttRsp::ReadBlob { data: field(1, p) }),
+        ATT_READ_BY_GROUP_TYPE_REQ => request_with_uuid(p, read_by_group_type_req(p)),
+        ATT_READ_BY_GROUP_TYPE_RSP => { items_of(p, read_by_group_type_rsp(p, remaining(1, p))) }
+        ATT_WRITE_REQ => request_of(p, 2, write_req(p, remaining(2, p))),
+        ATT_WRITE_RSP => response_of(p, 0, AttRsp::Write),
+        ATT_PREPARE_WRITE_REQ => request_of(p, 4, prepare_write_req(p, remaining(4, p))),
+        ATT_EXECUTE_WRITE_REQ => request_of(p, 1, execute_write_req(p)),
+        ATT_HANDLE_VALUE_NTF => unsolicited_of(p, 2, handle_value_ntf(p, remaining(2, p))),
+        ATT_HANDLE_VALUE_IND => unsolicited_of(p, 2, handle_value_ind(p, remaining(2, p))),
+        ATT_HANDLE_VALUE_CFM => packet(
             p,
             0,
             Att::Client(AttClient::Confirmation(AttCfm::ConfirmIndication)),
         ),
-        0x20 => request_of(p, 0, read_multiple_req(p)),
-        0x52 => packet(p, 2, Att::Client(AttClient::Command(write_cmd(p)))),
+        ATT_READ_MULTIPLE_REQ => {
+            request_of(
+                p,
+                0,
+                AttReq::ReadMultiple {
+                    handles: field(1, p),
+                },
+            )
+        }
+        ATT_WRITE_CMD => {
+            packet(
+                p,
+                2,
+                Att::Client(AttClient::Command(write_cmd(p, remaining(2, p)))),
+            )
+        }
         _ => refused(),
     }
 }
 
-fn error_rsp(p: &[u8]) -> AttRsp
-    ensures { λ r. ⌜ r ≡ rsp.Error (numberAt 1 0 (now (p .entry))) (numberAt 2 1 (now (p .entry))) (numberAt 1 3 (now (p .entry))) ⌝ }
+// 0C through the cursor that holds its bytes: the handle, and behind it the offset.
+fn read_blob_of(p: &[u8]) -> Decoded
+    ensures { λ r. ⌜ r ≡ answered Rest [] 4 (now (p .entry)) (request (req.ReadBlob (numberAt 2 0 (now (p .entry))) (numberAt 2 2 (now (p .entry))))) ⌝ }
 {
-    AttRsp::Error {
-        request: u8_at(p, 0),
-        handle: u16_at(p, 1),
-        code: u8_at(p, 3),
-    }
-}
-
-fn find_information_req(p: &[u8]) -> AttReq
-    ensures { λ r. ⌜ r ≡ req.FindInformation (numberAt 2 0 (now (p .entry))) (numberAt 2 2 (now (p .entry))) ⌝ }
-{
-    AttReq::FindInformation {
-        start_handle: u16_at(p, 0),
-        end_handle: u16_at(p, 2),
-    }
-}
-
-fn find_information_rsp(p: &[u8]) -> AttRsp
-    ensures { λ r. ⌜ r ≡ rsp.FindInformation (numberAt 1 0 (now (p .entry))) (behind 1 (now (p .entry))) ⌝ }
-{
-    AttRsp::FindInformation {
-        format: u8_at(p, 0),
-        items: rest(p, 1),
-    }
-}
-
-fn find_by_type_value_req(p: &[u8]) -> AttReq
-    ensures { λ r. ⌜ r ≡ req.FindByTypeValue (numberAt 2 0 (now (p .entry))) (numberAt 2 2 (now (p .entry))) (numberAt 2 4 (now (p .entry))) (behind 6 (now (p .entry))) ⌝ }
-{
-    AttReq::FindByTypeValue {
-        start_handle: u16_at(p, 0),
-        end_handle: u16_at(p, 2),
-        att_type: u16_at(p, 4),
-        att_value: rest(p, 6),
-    }
-}
-
-fn read_by_type_req(p: &[u8]) -> AttReq
-    ensures { λ r. ⌜ r ≡ req.ReadByType (numberAt 2 0 (now (p .entry))) (numberAt 2 2 (now (p .entry))) ⌝ }
-{
-    AttReq::ReadByType {
-        start: u16_at(p, 0),
-        end: u16_at(p, 2),
-    }
-}
-
-fn read_by_type_rsp(p: &[u8]) -> AttRsp
-    ensures { λ r. ⌜ r ≡ rsp.ReadByType (numberAt 1 0 (now (p .entry))) (behind 1 (now (p .entry))) ⌝ }
-{
-    AttRsp::ReadByType {
-        item_len: u8_at(p, 0),
-        items: rest(p, 1),
-    }
-}
-
-fn read_req(p: &[u8]) -> AttReq
-    ensures { λ r. ⌜ r ≡ req.Read (numberAt 2 0 (now (p .entry))) ⌝ }
-{
-    AttReq::Read {
-        handle: u16_at(p, 0),
-    }
-}
-
-fn read_blob_req(p: &[u8]) -> AttReq
-    ensures { λ r. ⌜ r ≡ req.ReadBlob (numberAt 2 0 (now (p .entry))) (numberAt 2 2 (now (p .entry))) ⌝ }
-{
-    AttReq::ReadBlob {
-        handle: u16_at(p, 0),
-        offset: u16_at(p, 2),
-    }
-}
-
-fn read_by_group_type_req(p: &[u8]) -> AttReq
-    ensures { λ r. ⌜ r ≡ req.ReadByGroupType (numberAt 2 0 (now (p .entry))) (numberAt 2 2 (now (p .entry))) ⌝ }
-{
-    AttReq::ReadByGroupType {
-        start: u16_at(p, 0),
-        end: u16_at(p, 2),
-    }
-}
-
-fn read_by_group_type_rsp(p: &[u8]) -> AttRsp
-    ensures { λ r. ⌜ r ≡ rsp.ReadByGroupType (numberAt 1 0 (now (p .entry))) (behind 1 (now (p .entry))) ⌝ }
-{
-    AttRsp::ReadByGroupType {
-        item_len: u8_at(p, 0),
-        items: rest(p, 1),
-    }
-}
-
-fn write_req(p: &[u8]) -> AttReq
-    ensures { λ r. ⌜ r ≡ req.Write (numberAt 2 0 (now (p .entry))) (behind 2 (now (p .entry))) ⌝ }
-{
-    AttReq::Write {
-        handle: u16_at(p, 0),
-        data: rest(p, 2),
-    }
-}
-
-fn prepare_write_req(p: &[u8]) -> AttReq
-    ensures { λ r. ⌜ r ≡ req.PrepareWrite (numberAt 2 0 (now (p .entry))) (numberAt 2 2 (now (p .entry))) (behind 4 (now (p .entry))) ⌝ }
-{
-    AttReq::PrepareWrite {
-        handle: u16_at(p, 0),
-        offset: u16_at(p, 2),
-        value: rest(p, 4),
-    }
-}
-
-fn handle_value_ntf(p: &[u8]) -> AttUns
-    ensures { λ r. ⌜ r ≡ uns.Notify (numberAt 2 0 (now (p .entry))) (behind 2 (now (p .entry))) ⌝ }
-{
-    AttUns::Notify {
-        handle: u16_at(p, 0),
-        data: rest(p, 2),
-    }
-}
-
-fn handle_value_ind(p: &[u8]) -> AttUns
-    ensures { λ r. ⌜ r ≡ uns.Indicate (numberAt 2 0 (now (p .entry))) (behind 2 (now (p .entry))) ⌝ }
-{
-    AttUns::Indicate {
-        handle: u16_at(p, 0),
-        data: rest(p, 2),
-    }
-}
-
-fn read_multiple_req(p: &[u8]) -> AttReq
-    ensures { λ r. ⌜ r ≡ req.ReadMultiple (behind 0 (now (p .entry))) ⌝ }
-{
-    AttReq::ReadMultiple {
-        handles: rest(p, 0),
-    }
-}
-
-fn write_cmd(p: &[u8]) -> AttCmd
-    ensures { λ r. ⌜ r ≡ record { handle = numberAt 2 0 (now (p .entry)); «data» = behind 2 (now (p .entry)) } ⌝ }
-{
-    AttCmd {
-        handle: u16_at(p, 0),
-        data: rest(p, 2),
+    match cursor_read::field(p, 0) {
+        ReadU16::Value(handle, next) => match cursor_read::field(p, next) {
+            ReadU16::Value(offset, _) => request_of(p, 4, AttReq::ReadBlob { handle, offset }),
+            ReadU16::Refused(_) => refused(),
+        },
+        ReadU16::Refused(_) => refused(),
     }
 }
 
@@ -286,11 +211,8 @@ fn packet(p: &[u8], fixed: usize, att: Att) -> Decoded
         return refused();
     }
     Decoded {
-        answer: Answer::Packet(att),
-        uuid: Uuid {
-            form: Form::Uuid16,
-            bytes: [0; 16],
-        },
+        answer: Parsed::Packet(att),
+        uuid: uuid::no_uuid(),
     }
 }
 
@@ -333,7 +255,7 @@ fn typed(value: &[u8], req: AttReq) -> Decoded
     let sliced = uuid::from_slice(value);
     let uuid = sliced.uuid;
     Decoded {
-        answer: Answer::Packet(Att::Client(AttClient::Request(req))),
+        answer: Parsed::Packet(Att::Client(AttClient::Request(req))),
         uuid,
     }
 }
@@ -342,26 +264,7 @@ fn refused() -> Decoded
     ensures { λ r. ⌜ r ≡ refusal ⌝ }
 {
     Decoded {
-        answer: Answer::Refused(Error::InvalidValue),
-        uuid: Uuid {
-            form: Form::Uuid16,
-            bytes: [0; 16],
-        },
-    }
-}
-
-// What follows the fixed fields, as a part of the received bytes, which have the opcode before the payload.
-// No row has more than 6 bytes of fixed fields.
-fn rest(p: &[u8], fixed: usize) -> Span
-    requires { ⌜ fixed ≤ 6 ⌝ }
-    ensures { λ r. ⌜ r ≡ behind fixed (now (p .entry)) ⌝ }
-{
-    let at = fixed + 1;
-    if p.len() < fixed {
-        return Span { at, len: 0 };
-    }
-    Span {
-        at,
-        len: p.len() - fixed,
+        answer: Parsed::Refused(Error::InvalidValue),
+        uuid: uuid::no_uuid(),
     }
 }

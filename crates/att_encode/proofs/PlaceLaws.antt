@@ -5,7 +5,7 @@ use mathlib.Core.Path.{_≡_, refl, sym, ap, subst, subst⁻¹, _∙_}
 use mathlib.Core.Bool.{Bool, true, false, _&&_}
 use mathlib.Core.List.{List, [], _++_}
 use native.Mathlib.Omega.{arith}
-use lib.ListN.{length, take, drop, replicate, length-append, length-drop}
+use lib.ListN.{length, take, drop, length-append, length-drop}
 use lib.Seq.{length-take-le, take-take, take-at}
 use lib.Dec.{leb, ltb}
 use borrow.Author.Tests.{lt-ltb, leb-true, ltb-true}
@@ -13,7 +13,7 @@ use Rattle.codec.specs.Buffer.{over, laid, written}
 use Rattle.codec.specs.Cases.{pick}
 use Rattle.codec.specs.declared.Error.the-variants.{InvalidValue}
 use Rattle.codec.specs.declared.Written.{Written}
-use Rattle.codec.specs.declared.Written.the-variants as written
+use Rattle.codec.specs.declared.Written.the-variants as wrote
 use Rattle.uuid.specs.Uuids.{onAir, zeros, rawOf}
 use Rattle.uuid.specs.declared.Raw.{Raw}
 use Rattle.uuid.specs.declared.Uuid.{Uuid}
@@ -21,9 +21,10 @@ use Rattle.att.specs.Wire as wire
 use Rattle.att.specs.Wire.{shapeOf, sentTail, tailDecodes, uuidLength, whole, Coded, Sent, NotSent, send}
 use Rattle.att.specs.Typed.{Shown, partOf, tailOf, meansShown, countable, encodedShown, lengthOf, writtenOf, laidOf}
 use Rattle.att.specs.declared.Span.{Span}
-use Rattle.att.specs.declared.Length.the-variants as length
+use Rattle.att.specs.declared.Length.the-variants as long
 use Rattle.att.specs.declared.Length.the-variants.{Bytes}
-use Rattle.att_layout.specs.Layout.{shownHead, followsOf, layoutOf}
+use Rattle.att_layout.specs.Layout.{headBytes, shownHead, followsOf, layoutOf}
+use Rattle.att_layout.specs.LayoutLaws.{head-most}
 use Rattle.att_encode.specs.Place.{fits, itemsPlace, uuidPlace, placeBy, placeOf, codedAt}
 use Rattle.att_layout.specs.declared.Follows.{Follows}
 use Rattle.att_layout.specs.declared.Follows.the-variants.{Nothing, Data, Items, AUuid}
@@ -36,9 +37,9 @@ pub part-length : (d : Span) (src : List ℕ) → d .at ≤ length src → d .le
 part-length d src h k = length-take-le (d .len) (drop (d .at) src) (simp length-drop (omega arith))
 
 -- what is sent when the length can be counted
-counted : (h t : List ℕ) (p : Place) (u : Uuid) (src : List ℕ) (n : ℕ) → length t ≡ n → codedAt h p u src ≡ Sent (h ++ t)
+part-counted : (h t : List ℕ) (p : Place) (u : Uuid) (src : List ℕ) (n : ℕ) → length t ≡ n → codedAt h p u src ≡ Sent (h ++ t)
     → countable (Sent (h ++ t)) ≡ codedAt h (pick (ltb (length h + n) (2 ^ 64)) p Refused) u src
-counted h t p u src n e q =
+part-counted h t p u src n e q =
     let l : length (h ++ t) ≡ length h + n = length-append h t ∙ ap (λ (m : ℕ). length h + m) e in
     ap (λ (m : ℕ). pick (ltb m (2 ^ 64)) (Sent (h ++ t)) NotSent) l ∙ by (ltb (length h + n) (2 ^ 64)) where
       by : (b : Bool) → pick b (Sent (h ++ t)) NotSent ≡ codedAt h (pick b p Refused) u src
@@ -55,8 +56,8 @@ tail-coded : (t : wire.Tail) (h ns : List ℕ) (d : Span) (u : Uuid) (src : List
     ≡ codedAt h (placeBy (followsOf t ns) d (length h) (length (onAir u))) u src
 unfolding fits itemsPlace uuidPlace
 tail-coded wire.Ends h ns d u src i j k m = short-counted (h ++ []) (simp length-append (omega arith))
-tail-coded wire.Rest h ns d u src i j k m = counted h (partOf d src) (Received (d .at) (d .len)) u src (d .len) (part-length d src k m) refl
-tail-coded wire.Handles h ns d u src i j k m = counted h (partOf d src) (Received (d .at) (d .len)) u src (d .len) (part-length d src k m) refl
+tail-coded wire.Rest h ns d u src i j k m = part-counted h (partOf d src) (Received (d .at) (d .len)) u src (d .len) (part-length d src k m) refl
+tail-coded wire.Handles h ns d u src i j k m = part-counted h (partOf d src) (Received (d .at) (d .len)) u src (d .len) (part-length d src k m) refl
 tail-coded wire.AUuid h ns d u src i j k m = by (uuidLength (length (onAir u))) where
   by : (b : Bool) → countable (pick b (Sent (h ++ onAir u)) NotSent) ≡ codedAt h (pick b (OnAir (length (onAir u))) Refused) u src
   by true = short-counted (h ++ onAir u) (simp length-append (omega arith))
@@ -73,7 +74,7 @@ tail-coded (wire.Items each least) h ns d u src i j k m = by (leb 2 (each ns)) w
 
   by : (b : Bool) → countable (pick b (Sent (h ++ take (whole (length (partOf d src)) (each ns)) (partOf d src))) NotSent)
       ≡ codedAt h (pick b (pick (ltb (length h + w) (2 ^ 64)) (Received (d .at) w) Refused) Refused) u src
-  by true = ap (λ (x : List ℕ). countable (Sent (h ++ x))) c ∙ counted h (take w (drop (d .at) src)) (Received (d .at) w) u src w (length-take-le w (drop (d .at) src) (simp length-drop (omega arith))) refl
+  by true = ap (λ (x : List ℕ). countable (Sent (h ++ x))) c ∙ part-counted h (take w (drop (d .at) src)) (Received (d .at) w) u src w (length-take-le w (drop (d .at) src) (simp length-drop (omega arith))) refl
   by false = refl
 tail-coded wire.NoPacket h ns d u src i j k m = refl
 
@@ -102,13 +103,7 @@ layout-coded s u src i j = by (leb (s .part .at) (length src)) (leb (s .part .le
 pub over-short : (b l : List ℕ) → length (over b l) ≡ length l → length b ≤ length l
 over-short b l e = omega (arith, length-append b (drop (length b) l) ∙ ap (λ (n : ℕ). length b + n) (length-drop (length b) l), e)
 
--- the head of a layout, and the UUID's bytes on air, as code cuts them from their arrays
-pub head-taken : (s : Shown) (l : Layout) → l ≡ layoutOf s → take (l .len - 0) (l .head) ≡ shownHead s
-unfolding layoutOf
-head-taken s l e =
-    let h = shownHead s in
-    ap (λ (k : Layout). take (k .len - 0) (k .head)) e ∙ take-at h (drop (length h) (replicate 8 0)) (length h - 0) (omega arith)
-
+-- the UUID's bytes on air, as code cuts them from their array
 pub air-taken : (a : List ℕ) (r : Raw) → r ≡ rawOf a → take (r .len - 0) (r .bytes) ≡ a
 air-taken a r e = ap (λ (k : Raw). take (k .len - 0) (k .bytes)) e ∙ take-at a (drop (length a) zeros) (length a - 0) (omega arith)
 
@@ -116,7 +111,7 @@ air-taken a r e = ap (λ (k : Raw). take (k .len - 0) (k .bytes)) e ∙ take-at 
 pub record Found (s : Shown) (u : Uuid) (src : List ℕ) (l : Layout) (r : Raw) (p : Place) : Type 0 where
   pub laidOut : l ≡ layoutOf s
   pub onTheAir : r ≡ rawOf (onAir u)
-  pub eight : length (l .head) ≡ 8
+  pub headed : headBytes (l .opcode) (l .fields) ≡ shownHead s
   pub sixteen : length (r .bytes) ≡ 16
   pub found : p ≡ placeOf l (r .len) (length src)
 
@@ -161,8 +156,7 @@ module _ (s : Shown) (u : Uuid) (src : List ℕ) (l : Layout) (r : Raw) (p : Pla
   head-length = ap (λ (k : Layout). k .len) (f .laidOut)
 
   head-short : length (shownHead s) ≤ 8
-  unfolding layoutOf
-  head-short = over-short (shownHead s) (replicate 8 0) (sym (ap (λ (k : Layout). length (k .head)) (f .laidOut)) ∙ f .eight)
+  head-short = omega (arith, ap length (f .headed), head-most (l .opcode) (l .fields))
 
   air-length : r .len ≡ length (onAir u)
   air-length = ap (λ (k : Raw). k .len) (f .onTheAir)
@@ -192,39 +186,46 @@ module _ (s : Shown) (u : Uuid) (src : List ℕ) (l : Layout) (r : Raw) (p : Pla
       (k, omega (arith, k, air-length, air-short))
 
   pub received-coded : (at len : ℕ) → p ≡ Received at len
-      → encodedShown s u src ≡ Sent (take (l .len - 0) (l .head) ++ take (at + len - at) (drop at src))
+      → encodedShown s u src ≡ Sent (headBytes (l .opcode) (l .fields) ++ take (at + len - at) (drop at src))
   received-coded at len e =
       let z : at + len - at ≡ len = omega arith in
       found-coded ∙ ap (λ (q : Place). codedAt (shownHead s) q u src) e
-      ∙ rw (head-taken s l (f .laidOut), z)
+      ∙ sym (ap (λ (h : List ℕ). Sent (h ++ take (at + len - at) (drop at src))) (f .headed) ∙ ap (λ (n : ℕ). Sent (shownHead s ++ take n (drop at src))) z)
 
-  pub air-coded : (len : ℕ) → p ≡ OnAir len → encodedShown s u src ≡ Sent (take (l .len - 0) (l .head) ++ take (len - 0) (r .bytes))
+  pub air-coded : (len : ℕ) → p ≡ OnAir len → encodedShown s u src ≡ Sent (headBytes (l .opcode) (l .fields) ++ take (len - 0) (r .bytes))
   air-coded len e =
+      let t : take (len - 0) (r .bytes) ≡ onAir u = rw (air-within len e .0, air-taken (onAir u) r (f .onTheAir)) in
       found-coded ∙ ap (λ (q : Place). codedAt (shownHead s) q u src) e
-      ∙ rw (air-within len e .0, head-taken s l (f .laidOut), air-taken (onAir u) r (f .onTheAir))
+      ∙ sym (ap (λ (h : List ℕ). Sent (h ++ take (len - 0) (r .bytes))) (f .headed) ∙ ap (λ (x : List ℕ). Sent (shownHead s ++ x)) t)
 
   pub refused-coded : p ≡ Refused → encodedShown s u src ≡ NotSent
   refused-coded e = found-coded ∙ ap (λ (q : Place). codedAt (shownHead s) q u src) e
 
   -- the size
-  cut-length : length (take (l .len - 0) (l .head)) ≡ l .len
-  cut-length = length-take-le (l .len - 0) (l .head) (omega (arith, len-short, f .eight)) ∙ omega arith
+  pub head-counted : l .len ≡ length (headBytes (l .opcode) (l .fields))
+  head-counted = head-length ∙ sym (ap length (f .headed))
 
   pub received-size : (at len : ℕ) → p ≡ Received at len → Bytes (l .len + len) ≡ lengthOf (encodedShown s u src)
   received-size at len e =
       let w = received-within at len e in
       let k : length (take (at + len - at) (drop at src)) ≡ len =
       length-take-le (at + len - at) (drop at src) (simp length-drop (omega (arith, w .0, w .1 .0))) ∙ omega arith in
-      rw (received-coded at len e, length-append, cut-length, k)
+      let h = headBytes (l .opcode) (l .fields) in
+      let t = take (at + len - at) (drop at src) in
+      let n : l .len + len ≡ length (h ++ t) = omega (arith, length-append h t, head-counted, k) in
+      ap Bytes n ∙ sym (ap lengthOf (received-coded at len e))
 
   pub air-size : (len : ℕ) → p ≡ OnAir len → Bytes (l .len + len) ≡ lengthOf (encodedShown s u src)
   air-size len e =
       let w = air-within len e in
       let k : length (take (len - 0) (r .bytes)) ≡ len =
       length-take-le (len - 0) (r .bytes) (omega (arith, w .1, f .sixteen)) ∙ omega arith in
-      rw (air-coded len e, length-append, cut-length, k)
+      let h = headBytes (l .opcode) (l .fields) in
+      let t = take (len - 0) (r .bytes) in
+      let n : l .len + len ≡ length (h ++ t) = omega (arith, length-append h t, head-counted, k) in
+      ap Bytes n ∙ sym (ap lengthOf (air-coded len e))
 
-  pub refused-size : p ≡ Refused → length.Refused InvalidValue ≡ lengthOf (encodedShown s u src)
+  pub refused-size : p ≡ Refused → long.Refused InvalidValue ≡ lengthOf (encodedShown s u src)
   refused-size e = rw (refused-coded e)
 
 -- what writing the bytes of a packet answers and leaves, and what a packet that is not sent does
@@ -232,5 +233,5 @@ pub sent-is : (k : Coded) (b out m : List ℕ) (w : Written) → k ≡ Sent b �
     → (w ≡ writtenOf k out) × (m ≡ laidOf k out)
 sent-is k b out m w e t = rw e t
 
-pub not-sent : (k : Coded) (out : List ℕ) → k ≡ NotSent → (written.Refused InvalidValue ≡ writtenOf k out) × (out ≡ laidOf k out)
+pub not-sent : (k : Coded) (out : List ℕ) → k ≡ NotSent → (wrote.Refused InvalidValue ≡ writtenOf k out) × (out ≡ laidOf k out)
 not-sent k out e = rw e (refl, refl)

@@ -9,9 +9,10 @@ use lib.Dec.{ltb}
 use Rattle.codec.specs.Cases.{pick}
 use Rattle.uuid.specs.declared.Uuid.{Uuid}
 use Rattle.att.specs.Wire.{Coded, Sent, NotSent, Means, send, trimmed}
-use Rattle.att.specs.Proper.{Proper}
+use Rattle.att.specs.Proper.{Held}
 use Rattle.att.specs.Typed.{meaningOf, partOk, countable, encoded, encodedShown, showAtt, decoded, readOf}
 use Rattle.att.specs.declared.Att.{Att}
+use Rattle.att.proofs.Proper.{held-proper}
 use Rattle.att.proofs.RoundTrip.{encode-round-trip}
 use Rattle.att.proofs.TypedMeans.{decoded-means}
 
@@ -26,9 +27,9 @@ tested : (t : Bool) (k : Coded) (b : List ℕ) → pick t (countable k) NotSent 
 tested true k b e = counted k b e
 tested false k b e = cc
 
-pub encode-then-decode : (a : Att) (u : Uuid) (src b : List ℕ) → Proper (meaningOf a u src) → encoded a u src ≡ Sent b
+pub encode-then-decode : (a : Att) (u : Uuid) (src b : List ℕ) → Held a → encoded a u src ≡ Sent b
     → readOf (decoded b .answer) (decoded b .uuid) b ≡ Means (trimmed (meaningOf a u src))
 unfolding encodedShown
 encode-then-decode a u src b p e =
     let s : send (meaningOf a u src) ≡ Sent b = tested (partOk (showAtt a .part) src) (send (meaningOf a u src)) b e in
-    decoded-means b ∙ encode-round-trip (meaningOf a u src) b p s
+    decoded-means b ∙ encode-round-trip (meaningOf a u src) b (held-proper a u src p) s

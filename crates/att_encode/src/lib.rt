@@ -1,7 +1,10 @@
 // att.rs: the size of a packet and its encoding. Both go by the packet's layout and one place of what
 // follows its fixed fields, so that the size is the length of what is written.
+//
+// A port of src/att.rs of trouble-host 0.8.0, which was changed: see NOTICE.
 use att::Att;
 use att::Length;
+use att_layout::Fields;
 use att_layout::Follows;
 use att_layout::Layout;
 use codec::Error;
@@ -9,8 +12,11 @@ use codec::Written;
 use uuid::Uuid;
 ghost use mathlib.Core.Path.{_≡_};
 ghost use mathlib.Core.List.{_++_};
-ghost use Rattle.codec.specs.Buffer.{laid, written};
+ghost use Prim.Native.Nat.{_+_, _≤_};
+ghost use lib.ListN.{length};
+ghost use Rattle.codec.specs.Buffer.{laid, laidAt, written};
 ghost use Rattle.att.specs.Typed.{encoded, lengthOf, writtenOf, laidOf};
+ghost use Rattle.att_layout.specs.Layout.{headBytes, fieldBytes};
 ghost use Rattle.att_encode.specs.Place.{placeOf, itemsPlace, fits, uuidPlace};
 
 // Where the bytes behind the fixed fields are to be found.
@@ -25,7 +31,7 @@ pub fn size(att: Att, uuid: Uuid, src: &[u8]) -> Length
     ensures { λ r. ⌜ r ≡ lengthOf (encoded att uuid (now (src .entry))) ⌝ }
 {
     let l = att_layout::lay_out(att);
-    let raw = uuid::on_air(uuid);
+    let raw = uuid.on_air();
     let n = l.len;
     let p = locate(l, raw.len, src.len());
     match p {
@@ -41,17 +47,15 @@ pub fn encode(att: Att, uuid: Uuid, src: &[u8], out: &mut [u8]) -> Written
     ensures { λ _. ⌜ now (out .exit) ≡ laidOf (encoded att uuid (now (src .entry))) (now (out .entry)) ⌝ }
 {
     let l = att_layout::lay_out(att);
-    let raw = uuid::on_air(uuid);
-    let head = l.head;
-    let n = l.len;
+    let raw = uuid.on_air();
     let own = raw.bytes;
     let p = locate(l, raw.len, src.len());
     match p {
         Place::Received { at, len } => {
             let end = at + len;
-            write_both(&head[0..n], &src[at..end], out)
+            write_packet(l, &src[at..end], out)
         }
-        Place::OnAir { len } => write_both(&head[0..n], &own[0..len], out),
+        Place::OnAir { len } => write_packet(l, &own[0..len], out),
         Place::Refused => Written::Refused(Error::InvalidValue),
     }
 }
@@ -109,13 +113,15 @@ fn uuid_place(width: usize) -> Place
     }
 }
 
-// Two stretches of bytes, one behind the other, at the start of a lent buffer; one that is too short
-// stays as it was.
-fn write_both(head: &[u8], tail: &[u8], out: &mut [u8]) -> Written
-    ensures { λ r. ⌜ r ≡ written (now (head .entry) ++ now (tail .entry)) (now (out .entry)) ⌝ }
-    ensures { λ _. ⌜ now (out .exit) ≡ laid (now (head .entry) ++ now (tail .entry)) (now (out .entry)) ⌝ }
+// The opcode, the fields and what follows them, one behind the other from the start of a lent buffer. Room is
+// tested for all of them before the first is written.
+fn write_packet(l: Layout, tail: &[u8], out: &mut [u8]) -> Written
+    requires { ⌜ l .len ≡ length (headBytes (l .opcode) (l .fields)) ⌝ }
+    ensures { λ r. ⌜ r ≡ written (headBytes (l .opcode) (l .fields) ++ now (tail .entry)) (now (out .entry)) ⌝ }
+    ensures { λ _. ⌜ now (out .exit) ≡ laid (headBytes (l .opcode) (l .fields) ++ now (tail .entry)) (now (out .entry)) ⌝ }
 {
-    let n = head.len();
+    let fields = l.fields;
+    let n = l.len;
     let m = tail.len();
     let room = out.len();
     if room < n {
@@ -124,7 +130,38 @@ fn write_both(head: &[u8], tail: &[u8], out: &mut [u8]) -> Written
     if room - n < m {
         return Written::Refused(Error::InsufficientSpace);
     }
-    codec::write_bytes(head, out);
-    codec::write_bytes(tail, &mut out[n..]);
+    cursor_write::write_u8(0, out, l.opcode);
+    write_fields(fields, out);
+    cursor_write::append(n, out, tail);
     Written::Done(n + m)
+}
+
+// The fixed fields, each at its position behind the opcode.
+fn write_fields(fields: Fields, out: &mut [u8])
+    requires { ⌜ 1 + length (fieldBytes fields) ≤ length (now out) ⌝ }
+    ensures { λ _. ⌜ now (out .exit) ≡ laidAt 1 (fieldBytes fields) (now (out .entry)) ⌝ }
+{
+    match fields {
+        Fields::Bare => {}
+        Fields::Byte(v) => {
+            cursor_write::write_u8(1, out, v);
+        }
+        Fields::Word(v) => {
+            cursor_write::write_u16(1, out, v);
+        }
+        Fields::Pair(v, w) => {
+            cursor_write::write_u16(1, out, v);
+            cursor_write::write_u16(3, out, w);
+        }
+        Fields::Triple(v, w, x) => {
+            cursor_write::write_u16(1, out, v);
+            cursor_write::write_u16(3, out, w);
+            cursor_write::write_u16(5, out, x);
+        }
+        Fields::Error(request, handle, code) => {
+            cursor_write::write_u8(1, out, request);
+            cursor_write::write_u16(2, out, handle);
+            cursor_write::write_u8(4, out, code);
+        }
+    }
 }

@@ -5,7 +5,7 @@ use mathlib.Core.List.{List, [], _∷_, _++_, map}
 use lib.Dec.{leb}
 use Rattle.codec.specs.Ascii.{ascii}
 use Rattle.codec.specs.Cases.{pick, lookup}
-use Rattle.decimal.specs.Decimal.{decimal}
+use Rattle.text_decimal.specs.Decimal.{decimalText}
 
 unfoldable pub texts : List (ℕ × List ℕ)
 texts =
@@ -35,10 +35,10 @@ texts =
     ∷ []
 
 unfoldable pub application : ℕ → List ℕ
-application code = ascii "application error code " ++ (decimal code ++ ascii ": check the application documentation of the device which produced this error code")
+application code = ascii "application error code " ++ (decimalText code ++ ascii ": check the application documentation of the device which produced this error code")
 
 unfoldable pub unknown : ℕ → List ℕ
-unknown code = ascii "unknown error code " ++ (decimal code ++ ascii ": check the most recent bluetooth spec")
+unknown code = ascii "unknown error code " ++ (decimalText code ++ ascii ": check the most recent bluetooth spec")
 
 abbrev pub shared : ℕ → List ℕ
 shared code = pick (leb 0x80 code) (pick (leb code 0x9F) (application code) (unknown code)) (unknown code)

@@ -8,7 +8,8 @@ use native.Mathlib.Omega.{arith}
 use lib.Dec.{ltb, leb}
 use borrow.Author.Tests.{lt-leb, le-leb}
 use Rattle.codec.specs.Buffer.{laid, written}
-use Rattle.codec.specs.CasesLaws.{None, missing}
+use Rattle.codec.specs.Cases.{None}
+use Rattle.codec.specs.CasesLaws.{missing}
 use Rattle.codec.specs.declared.Written.{Written}
 use Rattle.att_error.specs.Texts.{texts, application, unknown, shared, textOf, codes}
 

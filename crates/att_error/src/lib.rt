@@ -1,4 +1,6 @@
 // The error codes of att.rs (Core Specification, Volume 3 Part F, 3.4.1.1, and its Supplement, Part B).
+//
+// A port of src/att.rs of trouble-host 0.8.0, which was changed: see NOTICE.
 use codec::Error;
 ghost use mathlib.Core.Path.{_≡_};
 ghost use Rattle.att_error.specs.Texts.{codes};

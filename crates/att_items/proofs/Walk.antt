@@ -17,6 +17,7 @@ use Rattle.att.specs.Wire.{Tail, first, byFormat, rows, shapeOf, send, tailDeco
 use Rattle.att.specs.Items.{stretches, items, eachOf, itemsOf}
 use Rattle.att.specs.Typed.{Shown, partOf, partOk, tailOf, meansShown, countable, encodedShown, showRsp}
 use Rattle.att.specs.declared.Span.{Span}
+use Rattle.att.specs.declared.FindInformationUuidFormat.{FindInformationUuidFormat}
 use Rattle.att.specs.declared.AttRsp.{AttRsp}
 use Rattle.att.specs.declared.AttRsp.the-variants as rsp
 use Rattle.att_items.specs.Iterators.{sent, fitted, itemShown, onward, walk}
@@ -36,10 +37,10 @@ cut : (each at len pos : ℕ) (src : List ℕ) → pos + each ≤ len
 cut each at len pos src h =
     sym (ap (take each) (drop-take pos len (drop at src)) ∙ take-take each (len - pos) (drop pos (drop at src)) (omega arith) ∙ ap (take each) (drop-drop pos at src))
 
-stretched : (n each at len pos : ℕ) (src : List ℕ) (step : ℕ → Step) → ((q : ℕ) → step q ≡ fitted each at len q) → 2 ≤ each → len - pos < n
+stretched : (n each at len pos : ℕ) (src : List ℕ) (step : ℕ → Step) → ((q : ℕ) → step q ≡ fitted each at len q) → 2 ≤ each → len - pos ≤ n
     → walk n step src pos ≡ stretches ((len - pos) / each) each (drop pos (take len (drop at src)))
 unfolding fitted
-stretched zero each at len pos src step w h k = absurd (omega arith)
+stretched zero each at len pos src step w h k = let d : (len - pos) / each ≡ 0 = div-eq-of-lt {n = len - pos} {m = each} (omega arith) in rw d
 stretched (suc n) each at len pos src step w h k = by (leb (pos + each) len) refl (λ g. stretched n each at len (pos + each) src step w h (omega arith)) where
   l : List ℕ
   l = take len (drop at src)
@@ -76,7 +77,7 @@ row-passed s src h = passed (partOk (s .part) src) _ _ h
 -- the items of a packet that is sent, whose row has items, walked by an iterator that is for it
 pub walk-gives-the-items : (a b : ℕ) (s : Shown) (src : List ℕ) (n : ℕ) (each : List ℕ → ℕ) (least : ℕ)
     → shapeOf (s .opcode) .tail ≡ wire.Items each least → sent (encodedShown s noUuid src) ≡ true → (eqb (s .opcode) a || eqb (s .opcode) b) ≡ true
-    → length src < n → walk n (itemShown a b s src) src 0 ≡ itemsOf (meansShown s noUuid src)
+    → length src ≤ n → walk n (itemShown a b s src) src 0 ≡ itemsOf (meansShown s noUuid src)
 unfolding itemShown itemsOf items meansShown
 walk-gives-the-items a b s src n each least e h g k =
     let ns = s .numbers in
@@ -106,10 +107,10 @@ not-sent-ends a b s src pos e = rw e
 -- so it is for the four packets that have items, each with its own iterator
 abbrev Walked : ℕ → ℕ → AttRsp → Type 0
 Walked a b r =
-    (src : List ℕ) (n : ℕ) → sent (encodedShown (showRsp r) noUuid src) ≡ true → length src < n
+    (src : List ℕ) (n : ℕ) → sent (encodedShown (showRsp r) noUuid src) ≡ true → length src ≤ n
     → walk n (itemShown a b (showRsp r) src) src 0 ≡ itemsOf (meansShown (showRsp r) noUuid src)
 
-pub information-walked : (f : ℕ) (d : Span) → Walked 0x05 0x05 (rsp.FindInformation f d)
+pub information-walked : (f : FindInformationUuidFormat) (d : Span) → Walked 0x05 0x05 (rsp.FindInformation f d)
 unfolding shapeOf rows
 information-walked f d src n h k = walk-gives-the-items 0x05 0x05 (showRsp (rsp.FindInformation f d)) src n byFormat 2 refl h refl k
 

@@ -3,7 +3,7 @@
 use Prim.Native.Nat.{ℕ, zero, suc, _+_, _-_}
 use mathlib.Core.Bool.{Bool, true, false, _&&_, _||_}
 use mathlib.Core.List.{List, [], _∷_}
-use lib.ListN.{take, drop, getD}
+use lib.ListN.{length, take, drop}
 use lib.Dec.{leb, eqb}
 use Rattle.codec.specs.Cases.{pick}
 use Rattle.primitives.specs.Numbers.{numberAt}
@@ -51,7 +51,7 @@ eachBy follows.AUuid = 0
 
 unfoldable pub ofLayout : ℕ → ℕ → Layout → ℕ → Step
 ofLayout a b l pos =
-    pick (eqb (getD (l .head) 0 0) a || eqb (getD (l .head) 0 0) b) (fitted (eachBy (l .follows)) (l .part .at) (l .part .len) pos) End
+    pick (eqb (l .opcode) a || eqb (l .opcode) b) (fitted (eachBy (l .follows)) (l .part .at) (l .part .len) pos) End
 
 -- What each iterator gives of an item `i`: handle and end; handle and UUID; handle and the rest of the item.
 abbrev pub pairAt : List ℕ → ℕ → HandlePair
@@ -64,12 +64,19 @@ pairOf End src = handlePair.End
 abbrev pub informationAt : List ℕ → ℕ → Information
 informationAt i next = record { answer = handleUuid.Item (numberAt 2 0 i) next; uuid = uuidOf (drop 2 i) }
 
+abbrev pub noInformation : Information
+noInformation = record { answer = handleUuid.End; uuid = noUuid }
+
 abbrev pub informationOf : Step → List ℕ → Information
 informationOf (Item at len next) src = informationAt (take len (drop at src)) next
-informationOf End src = record { answer = handleUuid.End; uuid = noUuid }
+informationOf End src = noInformation
+
+-- the item starts at `at` of the received bytes
+abbrev pub valueAt : ℕ → List ℕ → ℕ → HandleValue
+valueAt at i next = handleValue.Item (numberAt 2 0 i) (span (at + 2) (length i - 2)) next
 
 abbrev pub valueOf : Step → List ℕ → HandleValue
-valueOf (Item at len next) src = handleValue.Item (numberAt 2 0 (take len (drop at src))) (span (at + 2) (len - 2)) next
+valueOf (Item at len next) src = valueAt at (take len (drop at src)) next
 valueOf End src = handleValue.End
 
 abbrev pub restOf : Step → List ℕ → List ℕ

@@ -1,5 +1,31 @@
-// att.rs: what a packet is written as. The opcode and the fixed fields are made by value, in the order of
+// att.rs: what a packet is written as. The opcode and the fixed fields go by value, in the order of
 // document 01's table; what follows them stays where it is and is told by its kind and its range.
+//
+// A port of src/att.rs of trouble-host 0.8.0, which was changed: see NOTICE.
+use att::ATT_ERROR_RSP;
+use att::ATT_EXCHANGE_MTU_REQ;
+use att::ATT_EXCHANGE_MTU_RSP;
+use att::ATT_EXECUTE_WRITE_REQ;
+use att::ATT_FIND_BY_TYPE_VALUE_REQ;
+use att::ATT_FIND_BY_TYPE_VALUE_RSP;
+use att::ATT_FIND_INFORMATION_REQ;
+use att::ATT_FIND_INFORMATION_RSP;
+use att::ATT_HANDLE_VALUE_CFM;
+use att::ATT_HANDLE_VALUE_IND;
+use att::ATT_HANDLE_VALUE_NTF;
+use att::ATT_PREPARE_WRITE_REQ;
+use att::ATT_READ_BLOB_REQ;
+use att::ATT_READ_BLOB_RSP;
+use att::ATT_READ_BY_GROUP_TYPE_REQ;
+use att::ATT_READ_BY_GROUP_TYPE_RSP;
+use att::ATT_READ_BY_TYPE_REQ;
+use att::ATT_READ_BY_TYPE_RSP;
+use att::ATT_READ_MULTIPLE_REQ;
+use att::ATT_READ_REQ;
+use att::ATT_READ_RSP;
+use att::ATT_WRITE_CMD;
+use att::ATT_WRITE_REQ;
+use att::ATT_WRITE_RSP;
 use att::Att;
 use att::AttCfm;
 use att::AttClient;
@@ -8,10 +34,9 @@ use att::AttRsp;
 use att::AttServer;
 use att::AttUns;
 use att::Span;
-ghost use Prim.Native.Nat.{_/_, _%_};
+use att_strict::pair_len;
 ghost use mathlib.Core.Path.{_≡_};
 ghost use mathlib.Core.List.{_∷_, []};
-ghost use Rattle.att.specs.Wire.{byFormat};
 ghost use Rattle.att.specs.Typed.{span, showAtt, showClient, showReq, showCfm, showServer, showRsp, showUns};
 ghost use Rattle.att_layout.specs.Layout.{plain, fixedOf, followedBy, layoutOf};
 ghost use Rattle.att_layout.specs.declared.Follows.the-variants.{AUuid};
@@ -25,9 +50,20 @@ pub enum Follows {
     AUuid,
 }
 
-// The opcode and the fixed fields are the first `len` bytes of `head`.
+// The fixed fields, by their widths.
+pub enum Fields {
+    Bare,
+    Byte(u8),
+    Word(u16),
+    Pair(u16, u16),
+    Triple(u16, u16, u16),
+    Error(u8, u16, u8),
+}
+
+// The opcode and the fixed fields, which are `len` bytes together.
 pub struct Layout {
-    pub head: [u8; 8],
+    pub opcode: u8,
+    pub fields: Fields,
     pub len: usize,
     pub follows: Follows,
     pub part: Span,
@@ -48,7 +84,7 @@ fn lay_out_client(c: AttClient) -> Layout
 {
     match c {
         AttClient::Request(r) => lay_out_req(r),
-        AttClient::Command(w) => followed(word(0x52, w.handle), Follows::Data, w.data),
+        AttClient::Command(w) => followed(word(ATT_WRITE_CMD, w.handle), Follows::Data, w.data),
         AttClient::Confirmation(k) => lay_out_cfm(k),
     }
 }
@@ -57,7 +93,7 @@ fn lay_out_cfm(c: AttCfm) -> Layout
     ensures { λ r. ⌜ r ≡ layoutOf (showCfm c) ⌝ }
 {
     match c {
-        AttCfm::ConfirmIndication => bare(0x1E),
+        AttCfm::ConfirmIndication => bare(ATT_HANDLE_VALUE_CFM),
     }
 }
 
@@ -65,33 +101,54 @@ fn lay_out_req(r: AttReq) -> Layout
     ensures { λ l. ⌜ l ≡ layoutOf (showReq r) ⌝ }
 {
     match r {
-        AttReq::ReadByGroupType { start, end } => typed(pair(0x10, start, end)),
-        AttReq::ReadByType { start, end } => typed(pair(0x08, start, end)),
-        AttReq::Read { handle } => word(0x0A, handle),
-        AttReq::Write { handle, data } => followed(word(0x12, handle), Follows::Data, data),
-        AttReq::ExchangeMtu { mtu } => word(0x02, mtu),
+        AttReq::ReadByGroupType { start, end } => typed(pair(
+            ATT_READ_BY_GROUP_TYPE_REQ,
+            start,
+            end,
+        )),
+        AttReq::ReadByType { start, end } => typed(pair(ATT_READ_BY_TYPE_REQ, start, end)),
+        AttReq::Read { handle } => word(ATT_READ_REQ, handle),
+        AttReq::Write { handle, data } => followed(
+            word(ATT_WRITE_REQ, handle),
+            Follows::Data,
+            data,
+        ),
+        AttReq::ExchangeMtu { mtu } => word(ATT_EXCHANGE_MTU_REQ, mtu),
         AttReq::FindByTypeValue {
             start_handle,
             end_handle,
             att_type,
             att_value,
         } => followed(
-            triple(0x06, start_handle, end_handle, att_type),
+            triple(
+                ATT_FIND_BY_TYPE_VALUE_REQ,
+                start_handle,
+                end_handle,
+                att_type,
+            ),
             Follows::Data,
             att_value,
         ),
         AttReq::FindInformation {
             start_handle,
             end_handle,
-        } => pair(0x04, start_handle, end_handle),
+        } => pair(ATT_FIND_INFORMATION_REQ, start_handle, end_handle),
         AttReq::PrepareWrite {
             handle,
             offset,
             value,
-        } => followed(pair(0x16, handle, offset), Follows::Data, value),
-        AttReq::ExecuteWrite { flags } => byte(0x18, flags),
-        AttReq::ReadMultiple { handles } => followed(bare(0x20), Follows::Data, handles),
-        AttReq::ReadBlob { handle, offset } => pair(0x0C, handle, offset),
+        } => followed(
+            pair(ATT_PREPARE_WRITE_REQ, handle, offset),
+            Follows::Data,
+            value,
+        ),
+        AttReq::ExecuteWrite { flags } => byte(ATT_EXECUTE_WRITE_REQ, flags),
+        AttReq::ReadMultiple { handles } => followed(
+            bare(ATT_READ_MULTIPLE_REQ),
+            Follows::Data,
+            handles,
+        ),
+        AttReq::ReadBlob { handle, offset } => pair(ATT_READ_BLOB_REQ, handle, offset),
     }
 }
 
@@ -108,33 +165,42 @@ fn lay_out_rsp(r: AttRsp) -> Layout
     ensures { λ l. ⌜ l ≡ layoutOf (showRsp r) ⌝ }
 {
     match r {
-        AttRsp::ExchangeMtu { mtu } => word(0x03, mtu),
-        AttRsp::FindByTypeValue { items } => followed(bare(0x07), Follows::Items(4), items),
+        AttRsp::ExchangeMtu { mtu } => word(ATT_EXCHANGE_MTU_RSP, mtu),
+        AttRsp::FindByTypeValue { items } => followed(
+            bare(ATT_FIND_BY_TYPE_VALUE_RSP),
+            Follows::Items(4),
+            items,
+        ),
         AttRsp::FindInformation { format, items } => {
-            followed(byte(0x05, format), Follows::Items(by_format(format)), items)
+            let format = format.to_u8();
+            followed(
+                byte(ATT_FIND_INFORMATION_RSP, format),
+                Follows::Items(pair_len(format)),
+                items,
+            )
         }
         AttRsp::Error {
             request,
             handle,
             code,
-        } => error(request, handle, code),
+        } => error(request, handle, code.to_u8()),
         AttRsp::ReadByType { item_len, items } => {
             followed(
-                byte(0x09, item_len),
+                byte(ATT_READ_BY_TYPE_RSP, item_len),
                 Follows::Items(item_len as usize),
                 items,
             )
         }
         AttRsp::ReadByGroupType { item_len, items } => {
             followed(
-                byte(0x11, item_len),
+                byte(ATT_READ_BY_GROUP_TYPE_RSP, item_len),
                 Follows::Items(item_len as usize),
                 items,
             )
         }
-        AttRsp::Read { data } => followed(bare(0x0B), Follows::Data, data),
-        AttRsp::ReadBlob { data } => followed(bare(0x0D), Follows::Data, data),
-        AttRsp::Write => bare(0x13),
+        AttRsp::Read { data } => followed(bare(ATT_READ_RSP), Follows::Data, data),
+        AttRsp::ReadBlob { data } => followed(bare(ATT_READ_BLOB_RSP), Follows::Data, data),
+        AttRsp::Write => bare(ATT_WRITE_RSP),
     }
 }
 
@@ -142,8 +208,16 @@ fn lay_out_uns(u: AttUns) -> Layout
     ensures { λ r. ⌜ r ≡ layoutOf (showUns u) ⌝ }
 {
     match u {
-        AttUns::Notify { handle, data } => followed(word(0x1B, handle), Follows::Data, data),
-        AttUns::Indicate { handle, data } => followed(word(0x1D, handle), Follows::Data, data),
+        AttUns::Notify { handle, data } => followed(
+            word(ATT_HANDLE_VALUE_NTF, handle),
+            Follows::Data,
+            data,
+        ),
+        AttUns::Indicate { handle, data } => followed(
+            word(ATT_HANDLE_VALUE_IND, handle),
+            Follows::Data,
+            data,
+        ),
     }
 }
 
@@ -152,47 +226,45 @@ fn lay_out_uns(u: AttUns) -> Layout
 fn bare(op: u8) -> Layout
     ensures { λ r. ⌜ r ≡ fixedOf op [] [] ⌝ }
 {
-    fixed([op, 0, 0, 0, 0, 0, 0, 0], 1)
+    fixed(op, Fields::Bare, 1)
 }
 
 fn byte(op: u8, v: u8) -> Layout
     ensures { λ r. ⌜ r ≡ fixedOf op (1 ∷ []) (v ∷ []) ⌝ }
 {
-    fixed([op, v, 0, 0, 0, 0, 0, 0], 2)
+    fixed(op, Fields::Byte(v), 2)
 }
 
 fn word(op: u8, v: u16) -> Layout
     ensures { λ r. ⌜ r ≡ fixedOf op (2 ∷ []) (v ∷ []) ⌝ }
 {
-    fixed([op, low(v), high(v), 0, 0, 0, 0, 0], 3)
+    fixed(op, Fields::Word(v), 3)
 }
 
 fn pair(op: u8, v: u16, w: u16) -> Layout
     ensures { λ r. ⌜ r ≡ fixedOf op (2 ∷ 2 ∷ []) (v ∷ w ∷ []) ⌝ }
 {
-    fixed([op, low(v), high(v), low(w), high(w), 0, 0, 0], 5)
+    fixed(op, Fields::Pair(v, w), 5)
 }
 
 fn triple(op: u8, v: u16, w: u16, x: u16) -> Layout
     ensures { λ r. ⌜ r ≡ fixedOf op (2 ∷ 2 ∷ 2 ∷ []) (v ∷ w ∷ x ∷ []) ⌝ }
 {
-    fixed(
-        [op, low(v), high(v), low(w), high(w), low(x), high(x), 0],
-        7,
-    )
+    fixed(op, Fields::Triple(v, w, x), 7)
 }
 
 fn error(request: u8, handle: u16, code: u8) -> Layout
     ensures { λ r. ⌜ r ≡ fixedOf 0x01 (1 ∷ 2 ∷ 1 ∷ []) (request ∷ handle ∷ code ∷ []) ⌝ }
 {
-    fixed([0x01, request, low(handle), high(handle), code, 0, 0, 0], 5)
+    fixed(ATT_ERROR_RSP, Fields::Error(request, handle, code), 5)
 }
 
-fn fixed(head: [u8; 8], len: usize) -> Layout
-    ensures { λ r. ⌜ r ≡ plain head len ⌝ }
+fn fixed(opcode: u8, fields: Fields, len: usize) -> Layout
+    ensures { λ r. ⌜ r ≡ plain opcode fields len ⌝ }
 {
     Layout {
-        head,
+        opcode,
+        fields,
         len,
         follows: Follows::Nothing,
         part: Span { at: 0, len: 0 },
@@ -202,9 +274,10 @@ fn fixed(head: [u8; 8], len: usize) -> Layout
 fn followed(l: Layout, follows: Follows, part: Span) -> Layout
     ensures { λ r. ⌜ r ≡ followedBy follows part l ⌝ }
 {
-    let head = l.head;
+    let fields = l.fields;
     Layout {
-        head,
+        opcode: l.opcode,
+        fields,
         len: l.len,
         follows,
         part,
@@ -215,27 +288,4 @@ fn typed(l: Layout) -> Layout
     ensures { λ r. ⌜ r ≡ followedBy AUuid (span 0 0) l ⌝ }
 {
     followed(l, Follows::AUuid, Span { at: 0, len: 0 })
-}
-
-fn low(v: u16) -> u8
-    ensures { λ r. ⌜ r ≡ v % 256 ⌝ }
-{
-    (v % 256) as u8
-}
-
-fn high(v: u16) -> u8
-    ensures { λ r. ⌜ r ≡ v / 256 % 256 ⌝ }
-{
-    (v / 256 % 256) as u8
-}
-
-// The length of a pair of Find Information Response; 0 for a format that is none.
-fn by_format(format: u8) -> usize
-    ensures { λ r. ⌜ r ≡ byFormat (format ∷ []) ⌝ }
-{
-    match format {
-        1 => 4,
-        2 => 18,
-        _ => 0,
-    }
 }

@@ -5,7 +5,8 @@ use mathlib.Core.Path.{_≡_, refl, sym, ap, _∙_}
 use mathlib.Core.List.{List, [], _∷_}
 use native.Mathlib.Omega.{arith}
 use lib.ListN.{length, drop, getD}
-use Rattle.codec.specs.CasesLaws.{None, missing}
+use Rattle.codec.specs.Cases.{None}
+use Rattle.codec.specs.CasesLaws.{missing}
 use Rattle.att.specs.Wire.{shape, NoPacket, rows, shapeOf, shapeStrict, strict}
 
 pub strict-nil : (s : List ℕ) → length s ≡ 0 → false ≡ strict s

@@ -1,4 +1,28 @@
 // The strict test: whether received bytes are a packet in the Core form, by lengths alone.
+use att::ATT_ERROR_RSP;
+use att::ATT_EXCHANGE_MTU_REQ;
+use att::ATT_EXCHANGE_MTU_RSP;
+use att::ATT_EXECUTE_WRITE_REQ;
+use att::ATT_FIND_BY_TYPE_VALUE_REQ;
+use att::ATT_FIND_BY_TYPE_VALUE_RSP;
+use att::ATT_FIND_INFORMATION_REQ;
+use att::ATT_FIND_INFORMATION_RSP;
+use att::ATT_HANDLE_VALUE_CFM;
+use att::ATT_HANDLE_VALUE_IND;
+use att::ATT_HANDLE_VALUE_NTF;
+use att::ATT_PREPARE_WRITE_REQ;
+use att::ATT_READ_BLOB_REQ;
+use att::ATT_READ_BLOB_RSP;
+use att::ATT_READ_BY_GROUP_TYPE_REQ;
+use att::ATT_READ_BY_GROUP_TYPE_RSP;
+use att::ATT_READ_BY_TYPE_REQ;
+use att::ATT_READ_BY_TYPE_RSP;
+use att::ATT_READ_MULTIPLE_REQ;
+use att::ATT_READ_REQ;
+use att::ATT_READ_RSP;
+use att::ATT_WRITE_CMD;
+use att::ATT_WRITE_REQ;
+use att::ATT_WRITE_RSP;
 use primitives::u8_at;
 ghost use mathlib.Core.Path.{_≡_};
 ghost use mathlib.Core.List.{[], _∷_};
@@ -41,30 +65,30 @@ fn strict_payload(op: u8, p: &[u8]) -> bool
     ensures { λ r. ⌜ r ≡ shapeStrict (shapeOf op) (now (p .entry)) ⌝ }
 {
     match op {
-        0x01 => ends(p, 4),
-        0x02 => ends(p, 2),
-        0x03 => ends(p, 2),
-        0x04 => ends(p, 4),
-        0x05 => strict_pairs(p),
-        0x06 => at_least(p, 6),
-        0x07 => whole_items(p, 0, 4, 2),
-        0x08 => has_uuid(p),
-        0x09 => strict_items(p, 2),
-        0x0A => ends(p, 2),
-        0x0B => at_least(p, 0),
-        0x0C => ends(p, 4),
-        0x0D => at_least(p, 0),
-        0x10 => has_uuid(p),
-        0x11 => strict_items(p, 4),
-        0x12 => at_least(p, 2),
-        0x13 => ends(p, 0),
-        0x16 => at_least(p, 4),
-        0x18 => ends(p, 1),
-        0x1B => at_least(p, 2),
-        0x1D => at_least(p, 2),
-        0x1E => ends(p, 0),
-        0x20 => handles(p),
-        0x52 => at_least(p, 2),
+        ATT_ERROR_RSP => ends(p, 4),
+        ATT_EXCHANGE_MTU_REQ => ends(p, 2),
+        ATT_EXCHANGE_MTU_RSP => ends(p, 2),
+        ATT_FIND_INFORMATION_REQ => ends(p, 4),
+        ATT_FIND_INFORMATION_RSP => strict_pairs(p),
+        ATT_FIND_BY_TYPE_VALUE_REQ => at_least(p, 6),
+        ATT_FIND_BY_TYPE_VALUE_RSP => whole_items(p, 0, 4, 2),
+        ATT_READ_BY_TYPE_REQ => has_uuid(p),
+        ATT_READ_BY_TYPE_RSP => strict_items(p, 2),
+        ATT_READ_REQ => ends(p, 2),
+        ATT_READ_RSP => at_least(p, 0),
+        ATT_READ_BLOB_REQ => ends(p, 4),
+        ATT_READ_BLOB_RSP => at_least(p, 0),
+        ATT_READ_BY_GROUP_TYPE_REQ => has_uuid(p),
+        ATT_READ_BY_GROUP_TYPE_RSP => strict_items(p, 4),
+        ATT_WRITE_REQ => at_least(p, 2),
+        ATT_WRITE_RSP => ends(p, 0),
+        ATT_PREPARE_WRITE_REQ => at_least(p, 4),
+        ATT_EXECUTE_WRITE_REQ => ends(p, 1),
+        ATT_HANDLE_VALUE_NTF => at_least(p, 2),
+        ATT_HANDLE_VALUE_IND => at_least(p, 2),
+        ATT_HANDLE_VALUE_CFM => ends(p, 0),
+        ATT_READ_MULTIPLE_REQ => handles(p),
+        ATT_WRITE_CMD => at_least(p, 2),
         _ => false,
     }
 }

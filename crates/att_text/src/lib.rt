@@ -1,9 +1,11 @@
 // The text of an error code: att.rs's `Display`, written to a lent buffer.
+//
+// A port of src/att.rs of trouble-host 0.8.0, which was changed: see NOTICE.
 use codec::Written;
 ghost use mathlib.Core.Path.{_≡_};
 ghost use lib.ListN.{take};
 ghost use Rattle.codec.specs.Buffer.{laid, written};
-ghost use Rattle.codec.specs.CasesLaws.{None};
+ghost use Rattle.codec.specs.Cases.{None};
 ghost use Rattle.att_error.specs.Texts.{texts, textOf};
 
 pub fn write_text(code: u8, out: &mut [u8]) -> Written
@@ -94,24 +96,26 @@ fn write_other(code: u8, out: &mut [u8]) -> Written
             out,
         ),
         0xFD => codec::write_bytes(
-            b"CCCD improperly configured: the client characteristic configuration descriptor (CCCD) is not configured according to the requirements of the profile or service",
+            b"CCCD improperly configured: the client characteristic configuration descriptor (CCCD) \
+              is not configured according to the requirements of the profile or service",
             out,
         ),
         0xFE => codec::write_bytes(
-            b"procedure already in progress: the profile or service request could not be serviced because an operation that has been previousl triggered is still in progress",
+            b"procedure already in progress: the profile or service request could not be serviced because \
+              an operation that has been previousl triggered is still in progress",
             out,
         ),
         0xFF => codec::write_bytes(
             b"out of range: the attribute value is out of range as defined by a profile or service specification",
             out,
         ),
-        0x80..=0x9F => decimal::write_between(
+        0x80..=0x9F => text_decimal::write_between(
             b"application error code ",
             code,
             b": check the application documentation of the device which produced this error code",
             out,
         ),
-        _ => decimal::write_between(
+        _ => text_decimal::write_between(
             b"unknown error code ",
             code,
             b": check the most recent bluetooth spec",

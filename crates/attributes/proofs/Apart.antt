@@ -2,14 +2,14 @@
 -- slot starts where the earlier one has ended. By induction down to the earlier record, and from there on to the later one.
 use Prim.Native.Nat.{ℕ, zero, suc, _+_, _≤_, _<_}
 use mathlib.Core.Bool.{true}
-use mathlib.Core.Path.{_≡_, refl, sym, _∙_, ap}
+use mathlib.Core.Path.{_≡_}
 use mathlib.Core.List.{List, [], _∷_}
 use native.Mathlib.Omega.{arith}
 use native.Mathlib.Nat.{not-suc-le-zero, le-of-suc-le-suc}
 use lib.ListN.{length, take, getD}
 use borrow.Author.Tests.{leb-true, eqb-true}
 use Rattle.codec.specs.CasesLaws.{both}
-use Rattle.attributes.specs.Records.{entries, slotOf, slotSize}
+use Rattle.attributes.specs.Records.{slotOf, slotSize}
 use Rattle.attributes.specs.Soundness.{startOk, spaceOk, roomOf, recordOk, slotsEnd, recordsOk, soundTable}
 use Rattle.attributes.specs.SoundnessLaws.{good, sound-parts, rises-all}
 use Rattle.attributes.specs.declared.Place.{Place}

@@ -2,11 +2,12 @@
 -- start, and by `slots-inside` the value ends within the live area.
 use Prim.Native.Nat.{ℕ, _+_, _≤_, _<_}
 use mathlib.Core.Bool.{true}
-use mathlib.Core.Path.{_≡_, refl, _∙_, ap}
+use mathlib.Core.Path.{_≡_, _∙_, ap}
 use mathlib.Core.List.{List}
 use native.Mathlib.Omega.{arith}
 use lib.ListN.{length, take, drop, getD}
 use borrow.Author.Tests.{le-leb}
+use Rattle.codec.specs.CasesLaws.{impossible}
 use Rattle.codec.specs.Buffer.{overAt}
 use Rattle.attributes.specs.ListLaws.{over-at-before, over-at-behind}
 use Rattle.attributes.specs.Records.{entries, slotOf, fits, start}
@@ -21,7 +22,7 @@ use Rattle.attributes.specs.declared.Table.{Table}
 use Rattle.attributes.proofs.Apart.{Ends, slots-inside}
 
 live-end : (ll a c n : ℕ) (p : Place) → p ≡ Live a c n → Ends ll p → a + c ≤ ll
-live-end ll a c n (Fixed b m) e k = let z : _≡_ {A = ℕ} 0 1 = cc in absurd (omega arith)
+live-end ll a c n (Fixed b m) e k = impossible (cc)
 live-end ll a c n (Live b d m) e k =
     let x : b ≡ a = cc in
     let y : d ≡ c = cc in

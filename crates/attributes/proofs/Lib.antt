@@ -2,3 +2,4 @@ pub mod Apart
 pub mod Kept
 pub mod Built
 pub mod Order
+pub mod Ignored

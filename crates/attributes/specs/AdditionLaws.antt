@@ -1,27 +1,26 @@
 -- What an addition does: an accepted one appends its record, keeps the table sound, and appends its attribute to the ledger.
-use Prim.Native.Nat.{ℕ, _+_, _≤_, _<_}
+use Prim.Native.Nat.{ℕ, _+_, _<_}
 use mathlib.Core.Bool.{Bool, true, false}
-use mathlib.Core.Path.{_≡_, refl, sym, _∙_, ap}
+use mathlib.Core.Path.{_≡_, refl, _∙_, ap}
 use mathlib.Core.List.{List, [], _∷_, _++_, map, map-append}
 use native.Mathlib.Omega.{arith}
 use native.Mathlib.Numerals.{add-one}
-use lib.ListN.{length, take, set, length-set}
+use lib.ListN.{length, length-set}
 use lib.Seq.{take-suc-set}
-use lib.Dec.{leb, ltb, eqb}
-use borrow.Author.Tests.{ltb-true, leb-true, le-leb, eq-eqb}
+use borrow.Author.Tests.{ltb-true, le-leb, eq-eqb}
 use Rattle.codec.specs.Cases.{pick}
-use Rattle.codec.specs.CasesLaws.{both, join}
+use Rattle.codec.specs.CasesLaws.{impossible, both, join}
 use Rattle.codec.specs.declared.Refusal.{Refusal}
 use Rattle.codec.specs.declared.Refusal.the-variants.{BadTable}
-use Rattle.attributes.specs.Additions.{tested, changedBy, emptyTable, newRefusal, newTable, lastHandle, used, freshPlace, fresh, addTests, addRefusal, appended, added, freshItem}
-use Rattle.attributes.specs.Ledger.{Item, holding, item, itemsOf}
-use Rattle.attributes.specs.Records.{entries, valueOf, slotOf}
+use Rattle.attributes.specs.Additions.{tested, newRefusal, newTable, lastHandle, used, freshPlace, fresh, addTests, addRefusal, appended, added, freshItem}
+use Rattle.attributes.specs.Lists.{Each}
+use Rattle.attributes.specs.Ledger.{Item, item, ledgerOf}
+use Rattle.attributes.specs.Records.{entries}
 use Rattle.attributes.specs.Soundness.{countOk, liveOk, areasOk, handleOk, typeOk, valueOk, spaceOk, startOk, lengthOk, roomOf, recordOk, slotsEnd, recordsOk, soundTable}
-use Rattle.attributes.specs.SoundnessLaws.{Good, good, good-ok, sound-parts}
+use Rattle.attributes.specs.SoundnessLaws.{Good, good-ok}
 use Rattle.attributes.specs.declared.Addition.{Addition}
 use Rattle.attributes.specs.declared.Outcome.{Outcome}
 use Rattle.attributes.specs.declared.Outcome.the-variants.{Accepted, Refused}
-use Rattle.attributes.specs.declared.Place.{Place}
 use Rattle.attributes.specs.declared.Place.the-variants.{Fixed, Live}
 use Rattle.attributes.specs.declared.Record.{Record}
 use Rattle.attributes.specs.declared.Room as asked
@@ -29,17 +28,16 @@ use Rattle.attributes.specs.declared.Room.the-variants as room
 use Rattle.attributes.specs.declared.Table.{Table}
 
 -- a row of tests that is accepted has passed each of them
-abbrev Each : List (Bool × Refusal) → Type 0
-Each [] = Unit
-Each (test ∷ tests) = (test .0 ≡ true) × Each tests
+abbrev pub Passes : List (Bool × Refusal) → Type 0
+Passes tests = Each (λ (test : Bool × Refusal). test .0 ≡ true) tests
 
-each : (tests : List (Bool × Refusal)) → tested tests ≡ Accepted → Each tests
-each [] e = tt
-each (test ∷ tests) e = by (test .0) e (each tests)
+pub each-passed : (tests : List (Bool × Refusal)) → tested tests ≡ Accepted → Passes tests
+each-passed [] e = tt
+each-passed (test ∷ tests) e = by (test .0) e (each-passed tests)
   where
-    by : (b : Bool) → pick b (tested tests) (Refused (test .1)) ≡ Accepted → (tested tests ≡ Accepted → Each tests) → (b ≡ true) × Each tests
+    by : (b : Bool) → pick b (tested tests) (Refused (test .1)) ≡ Accepted → (tested tests ≡ Accepted → Passes tests) → (b ≡ true) × Passes tests
     by true e f = (refl, f e)
-    by false e f = let z : _≡_ {A = ℕ} 0 1 = cc in absurd (omega arith)
+    by false e f = impossible (cc)
 
 -- what an accepted addition has passed
 pub record Passed (t : Table) (a : Addition) (fl ll : ℕ) : Type 0 where
@@ -53,7 +51,7 @@ pub record Passed (t : Table) (a : Addition) (fl ll : ℕ) : Type 0 where
 pub passed : (t : Table) (a : Addition) (fl ll : ℕ) → addRefusal t a fl ll ≡ Accepted → Passed t a fl ll
 unfolding addRefusal
 passed t a fl ll e =
-    let p = each (addTests t a fl ll) e in
+    let p = each-passed (addTests t a fl ll) e in
     record {
       sound = p .0;
       free = ltb-true (t .count) 64 (p .1 .0);
@@ -141,12 +139,12 @@ module _ (t : Table) (a : Addition) (full : length (t .records) ≡ 64) where
       by (Refused why) e = rw e full
 
   pub add-ledger : (fixed live : List ℕ) → addRefusal t a (length fixed) (length live) ≡ Accepted
-      → itemsOf (added t a (length fixed) (length live) .table) fixed live ≡ itemsOf t fixed live ++ freshItem fixed a ∷ []
+      → ledgerOf (added t a (length fixed) (length live) .table) fixed live ≡ ledgerOf t fixed live ++ freshItem fixed a ∷ []
   add-ledger fixed live e =
       let at = used 0 (entries t) in
       ap (map (item fixed live)) (add-entries (length fixed) (length live) e)
       ∙ map-append (item fixed live) (entries t) (fresh at a ∷ [])
-      ∙ ap (λ (i : Item). itemsOf t fixed live ++ i ∷ []) (fresh-item at (a .room) refl)
+      ∙ ap (λ (i : Item). ledgerOf t fixed live ++ i ∷ []) (fresh-item at (a .room) refl)
     where
       fresh-item : (at : ℕ) (w : asked.Room) → a .room ≡ w → item fixed live (fresh at a) ≡ freshItem fixed a
       fresh-item at (room.Fixed b n) q = rw q
@@ -160,4 +158,4 @@ refused-add t a fl ll why e = rw e
 -- A new table is sound for the areas that it was made for, and has no record.
 pub new-sound : (fl ll : ℕ) → newRefusal ll ≡ Accepted → soundTable (newTable fl ll .table) fl ll ≡ true
 unfolding newTable soundTable
-new-sound fl ll e = rw e (join (each ((liveOk ll, BadTable) ∷ []) e .0) (join (join (eq-eqb fl fl refl) (eq-eqb ll ll refl)) refl))
+new-sound fl ll e = rw e (join (each-passed ((liveOk ll, BadTable) ∷ []) e .0) (join (join (eq-eqb fl fl refl) (eq-eqb ll ll refl)) refl))

@@ -1,7 +1,7 @@
 -- Document 01, "Refusal numbers" and "Table, link and the till's own stores": a new table, and adding to one.
 use Prim.Native.Nat.{ℕ, _+_}
 use mathlib.Core.Bool.{Bool, false}
-use mathlib.Core.List.{List, [], _∷_}
+use mathlib.Core.List.{List, [], _∷_, _++_}
 use lib.ListN.{set, replicate}
 use lib.Dec.{ltb}
 use Rattle.codec.specs.Cases.{pick}
@@ -31,6 +31,9 @@ tested (test ∷ tests) = pick (test .0) (tested tests) (Refused (test .1))
 abbrev pub changedBy : Outcome → Table → Table → Changed
 changedBy Accepted next t = record { outcome = Accepted; table = next }
 changedBy (Refused why) next t = record { outcome = Refused why; table = t }
+
+abbrev pub refusing : Table → Refusal → Changed
+refusing t why = record { outcome = Refused why; table = t }
 
 -- A table with no record, built for areas of these lengths. The places that do not count hold a blank record.
 abbrev pub blank : Record
@@ -108,6 +111,11 @@ added t a fl ll = changedBy (addRefusal t a fl ll) (appended t (fresh (used 0 (e
 -- The attribute that an addition makes, as the ledger has it: the slot's place does not show, and a live value is empty.
 abbrev pub freshItem : List ℕ → Addition → Item
 freshItem fixed a = holding (fresh 0 a) (valueOf (freshPlace 0 (a .room)) fixed [])
+
+-- the additions that were accepted so far, and one more where it is accepted too
+abbrev pub joins : Outcome → Addition → List Addition → List Addition
+joins Accepted a adds = adds ++ a ∷ []
+joins (Refused why) a adds = adds
 
 -- the records that additions make one after the other, the first live slot at `at`
 abbrev pub layout : ℕ → List Addition → List Record

@@ -2,12 +2,12 @@
 -- stores"). The till's lookup is defined on it.
 use Prim.Native.Nat.{ℕ}
 use mathlib.Core.Bool.{Bool}
-use mathlib.Core.List.{List, [], _∷_, map}
+use mathlib.Core.List.{List, [], map}
 use lib.ListN.{length}
-use lib.Dec.{eqb}
 use Rattle.codec.specs.Cases.{pick}
 use Rattle.codec.specs.declared.Refusal.the-variants.{UnknownHandle, BadTable}
 use Rattle.uuid.specs.Uuids.{own}
+use Rattle.attributes.specs.Lists.{firstAt}
 use Rattle.attributes.specs.Records.{Slot, entries, slotOf, valueOf}
 use Rattle.attributes.specs.Soundness.{soundTable}
 use Rattle.attributes.specs.declared.Outcome.{Outcome}
@@ -41,8 +41,8 @@ holding r v = record {
 abbrev pub item : List ℕ → List ℕ → Record → Item
 item fixed live r = holding r (valueOf (r .place) fixed live)
 
-abbrev pub itemsOf : Table → List ℕ → List ℕ → List Item
-itemsOf t fixed live = map (item fixed live) (entries t)
+abbrev pub ledgerOf : Table → List ℕ → List ℕ → List Item
+ledgerOf t fixed live = map (item fixed live) (entries t)
 
 -- the same attribute with another value
 abbrev pub valued : Item → List ℕ → Item
@@ -57,20 +57,19 @@ valued i v = record {
   value = v;
 }
 
--- what the first attribute with a handle gives, or `none` where there is no such attribute
-abbrev pub atHandle : {A : Type 0} → ℕ → (Item → A) → A → List Item → A
-atHandle h gives none [] = none
-atHandle h gives none (i ∷ is) = pick (eqb (i .handle) h) (gives i) (atHandle h gives none is)
+-- the attribute with a handle
+abbrev pub itemAt : {A : Type 0} → ℕ → (Item → A) → A → List Item → A
+itemAt h gives none is = firstAt (λ (i : Item). i .handle) h gives none is
 
 abbrev pub valueAt : ℕ → List Item → List ℕ
-valueAt h is = atHandle h (λ i. i .value) [] is
+valueAt h is = itemAt h (λ i. i .value) [] is
 
 -- The till's lookup, whatever the marks: its refusal (11, then 8), and its value, which is empty on a refusal.
 abbrev pub known : ℕ → List Item → Outcome
-known h is = atHandle h (λ i. Accepted) (Refused UnknownHandle) is
+known h is = itemAt h (λ i. Accepted) (Refused UnknownHandle) is
 
 unfoldable pub lookupRefusal : Table → ℕ → List ℕ → List ℕ → Outcome
-lookupRefusal t h fixed live = pick (soundTable t (length fixed) (length live)) (known h (itemsOf t fixed live)) (Refused BadTable)
+lookupRefusal t h fixed live = pick (soundTable t (length fixed) (length live)) (known h (ledgerOf t fixed live)) (Refused BadTable)
 
 unfoldable pub lookedUp : Table → ℕ → List ℕ → List ℕ → List ℕ
-lookedUp t h fixed live = pick (soundTable t (length fixed) (length live)) (valueAt h (itemsOf t fixed live)) []
+lookedUp t h fixed live = pick (soundTable t (length fixed) (length live)) (valueAt h (ledgerOf t fixed live)) []

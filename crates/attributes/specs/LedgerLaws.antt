@@ -1,9 +1,8 @@
 -- What a store does to the values of a ledger: an accepted one is the value at its handle, and every other value is as it was.
 use Prim.Native.Nat.{ℕ}
 use mathlib.Core.Bool.{Bool, true, false, _&&_}
-use mathlib.Core.Path.{_≡_, refl, sym, _∙_, ap}
+use mathlib.Core.Path.{_≡_, refl, sym, _∙_}
 use mathlib.Core.List.{List, [], _∷_, map}
-use native.Mathlib.Omega.{arith}
 use lib.ListN.{length}
 use lib.Dec.{leb, eqb}
 use borrow.Author.Tests.{eqb-true}
@@ -13,7 +12,6 @@ use Rattle.codec.specs.declared.Refusal.the-variants.{TooLong}
 use Rattle.attributes.specs.Ledger.{Item, valued, valueAt}
 use Rattle.attributes.specs.Records.{Slot, Kept, Room, fits}
 use Rattle.attributes.specs.Stores.{takes, put, slotRefusal, storeRefusal, liveBy}
-use Rattle.attributes.specs.declared.Outcome.{Outcome}
 use Rattle.attributes.specs.declared.Outcome.the-variants.{Accepted, Refused}
 
 -- a slot takes a value exactly when the till's store there is accepted

@@ -1,3 +1,4 @@
+pub mod Lists
 pub mod Records
 pub mod Soundness
 pub mod Ledger
@@ -9,4 +10,5 @@ pub mod StoreLaws
 pub mod LedgerLaws
 pub mod FindLaws
 pub mod AdditionLaws
-pub mod History
+pub mod Examples
+pub mod Marks

@@ -1,7 +1,6 @@
 -- Laws of lists that the table needs: parts of lists that are equal in front or behind, bytes laid at a place, and a function on
 -- the first elements.
 use Prim.Native.Nat.{ℕ, zero, suc, _+_, _-_, _≤_, _<_}
-use mathlib.Core.Bool.{Bool, true, false}
 use mathlib.Core.Path.{_≡_, refl, sym, _∙_, ap, fun-ext}
 use mathlib.Core.List.{List, [], _∷_, _++_, map, append-assoc}
 use native.Mathlib.Omega.{arith}
@@ -9,11 +8,7 @@ use native.Mathlib.Nat.{zero-add, suc-add, not-suc-le-zero, le-of-suc-le-suc}
 use lib.ListN.{length, take, drop, getD, length-append, length-take, length-drop, length-map}
 use lib.Seq.{length-take-le, take-append-le, take-take, take-at, drop-at, drop-drop, take-nil}
 use Rattle.codec.specs.Buffer.{overAt}
-use Rattle.codec.specs.Cases.{pick}
 use Rattle.attributes.specs.Stores.{mapFirst}
-
-pub picked : {A : Type 0} (b : Bool) (x y : A) → b ≡ true → pick b x y ≡ x
-picked b x y e = rw e
 
 pub map-as : {A B : Type 0} (f g : A → B) (l : List A) → ((x : A) → f x ≡ g x) → map f l ≡ map g l
 map-as f g l h = ap (λ k. map k l) (fun-ext h)

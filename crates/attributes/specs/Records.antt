@@ -1,16 +1,16 @@
 -- Document 01, "Table, link and the till's own stores": records, the place of a record's value, and how a record is found.
-use Prim.Native.Nat.{ℕ, suc}
-use mathlib.Core.Bool.{Bool, false}
-use mathlib.Core.List.{List, [], _∷_, map}
+use Prim.Native.Nat.{ℕ}
+use mathlib.Core.Bool.{Bool, true, false}
+use mathlib.Core.List.{List, map}
 use lib.ListN.{take, drop}
-use lib.Dec.{leb, eqb}
-use Rattle.codec.specs.Cases.{pick}
+use lib.Dec.{leb}
+use Rattle.attributes.specs.Lists.{firstAt, numbered}
 use Rattle.attributes.specs.declared.Place.{Place}
 use Rattle.attributes.specs.declared.Place.the-variants.{Fixed, Live}
 use Rattle.attributes.specs.declared.Record.{Record}
 use Rattle.attributes.specs.declared.Table.{Table}
-use Rattle.attributes.specs.declared.Found.{Found}
-use Rattle.attributes.specs.declared.Found.the-variants.{At, Missing}
+use Rattle.attributes.specs.declared.Sought.{Sought}
+use Rattle.attributes.specs.declared.Sought.the-variants.{At, Missing}
 
 -- the records that count; what stands behind them in the array is not looked at
 abbrev pub entries : Table → List Record
@@ -37,6 +37,10 @@ slotSize (Room c) = c
 abbrev pub fits : ℕ → Slot → Bool
 fits n Kept = false
 fits n (Room c) = leb n c
+
+abbrev pub isRoom : Slot → Bool
+isRoom Kept = false
+isRoom (Room c) = true
 
 -- where the value starts in its area
 abbrev pub start : Place → ℕ
@@ -67,10 +71,12 @@ bare r = lengthened r 0
 abbrev pub skeleton : Table → List Record
 skeleton t = map bare (entries t)
 
--- the number of the first of these records that has the handle `h`, where the first of all has the number `i`
-unfoldable pub findFrom : ℕ → ℕ → List Record → Found
-findFrom i h [] = Missing
-findFrom i h (r ∷ rs) = pick (eqb (r .handle) h) (At i) (findFrom (suc i) h rs)
+-- the record with a handle; and its number, where the first of these records has the number `i`
+abbrev pub recordAt : {A : Type 0} → ℕ → (Record → A) → A → List Record → A
+recordAt h gives none rs = firstAt (λ (r : Record). r .handle) h gives none rs
 
-abbrev pub findIn : ℕ → List Record → Found
+unfoldable pub findFrom : ℕ → ℕ → List Record → Sought
+findFrom i h rs = firstAt (λ (x : ℕ × Record). x .1 .handle) h (λ (x : ℕ × Record). At (x .0)) Missing (numbered i rs)
+
+abbrev pub findIn : ℕ → List Record → Sought
 findIn h rs = findFrom 0 h rs

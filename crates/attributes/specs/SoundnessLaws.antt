@@ -1,16 +1,16 @@
 -- What soundness gives: the rules of a table and of each of its records as facts; handles rise, so no two are equal; slots stand
 -- one behind the other; no fixed attribute is writable.
 use Prim.Native.Nat.{ℕ, zero, suc, _+_, _≤_, _<_}
-use mathlib.Core.Bool.{Bool, true, false, not}
-use mathlib.Core.Path.{_≡_, refl, sym, _∙_, ap}
-use mathlib.Core.List.{List, [], _∷_, map}
+use mathlib.Core.Bool.{Bool, true, not}
+use mathlib.Core.Path.{_≡_, refl}
+use mathlib.Core.List.{List, [], _∷_}
 use native.Mathlib.Omega.{arith}
 use native.Mathlib.Nat.{not-suc-le-zero, le-of-suc-le-suc}
 use lib.ListN.{length, take, getD}
-use lib.Dec.{leb, ltb, eqb}
-use borrow.Author.Tests.{leb-true, ltb-true, eqb-true, lt-ltb, not-true}
+use lib.Dec.{eqb}
+use borrow.Author.Tests.{leb-true, ltb-true, eqb-true, lt-ltb}
 use Rattle.codec.specs.CasesLaws.{both, join}
-use Rattle.attributes.specs.Records.{Slot, Kept, Room, entries, slotOf, slotSize, start}
+use Rattle.attributes.specs.Records.{Slot, Kept, Room, entries, slotOf, slotSize}
 use Rattle.attributes.specs.Soundness.{countOk, liveOk, areasOk, handleOk, typeOk, sizeOk, insideOk, valueOk, spaceOk, startOk, lengthOk, roomOf, recordOk, slotsEnd, recordsOk, soundTable}
 use Rattle.attributes.specs.declared.Place.{Place}
 use Rattle.attributes.specs.declared.Place.the-variants.{Fixed, Live}

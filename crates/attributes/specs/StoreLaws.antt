@@ -10,19 +10,20 @@ use mathlib.Core.List.{List, [], _∷_, map, map-map}
 use native.Mathlib.Omega.{arith}
 use native.Mathlib.Nat.{not-suc-le-zero, le-of-suc-le-suc}
 use lib.ListN.{length, take, drop, getD, set}
-use lib.Dec.{leb, ltb, eqb}
-use borrow.Author.Tests.{leb-true, eqb-true, ne-eqb, eq-eqb, le-leb}
+use lib.Dec.{eqb}
+use borrow.Author.Tests.{leb-true, eqb-true, ne-eqb, eq-eqb}
 use Rattle.codec.specs.Buffer.{overAt}
 use Rattle.codec.specs.Cases.{pick}
-use Rattle.codec.specs.CasesLaws.{both, join}
+use Rattle.codec.specs.CasesLaws.{impossible, both, join}
 use Rattle.codec.specs.declared.Refusal.{Refusal}
-use Rattle.attributes.specs.Additions.{changedBy}
-use Rattle.attributes.specs.Ledger.{Item, holding, item, itemsOf, valued}
-use Rattle.attributes.specs.ListLaws.{picked, map-as, take-mapFirst, over-at-length, over-at-there, over-at-before, over-at-behind, part-of-front, part-of-back}
-use Rattle.attributes.specs.Records.{Slot, Kept, Room, entries, valueOf, slotOf, slotSize, fits, start, grown, lengthened, bare, skeleton}
+use Rattle.codec.specs.declared.Refusal.the-variants.{UnknownHandle, NotStorable, TooLong, BadTable}
+use Rattle.attributes.specs.Additions.{tested, changedBy}
+use Rattle.attributes.specs.Ledger.{Item, holding, item, ledgerOf, valued}
+use Rattle.attributes.specs.ListLaws.{map-as, take-mapFirst, over-at-length, over-at-there, over-at-before, over-at-behind, part-of-front, part-of-back}
+use Rattle.attributes.specs.Records.{Slot, Kept, Room, entries, valueOf, slotOf, slotSize, fits, isRoom, start, grown, lengthened, bare, skeleton}
 use Rattle.attributes.specs.Soundness.{countOk, liveOk, areasOk, spaceOk, startOk, lengthOk, roomOf, recordOk, slotsEnd, recordsOk, soundTable}
 use Rattle.attributes.specs.SoundnessLaws.{Good, good, good-ok, sound-parts, rises-all}
-use Rattle.attributes.specs.Stores.{takes, relength, mapFirst, relengthed, writtenLive, put, slotRefusal, storeRefusal, ownRefusal, stored, liveBy, storedLive}
+use Rattle.attributes.specs.Stores.{present, storable, roomy, storeTests, takes, relength, mapFirst, relengthed, writtenLive, put, slotRefusal, storeRefusal, ownRefusal, stored, liveBy, storedLive}
 use Rattle.attributes.specs.declared.Outcome.{Outcome}
 use Rattle.attributes.specs.declared.Outcome.the-variants.{Accepted, Refused}
 use Rattle.attributes.specs.declared.Place.{Place}
@@ -54,7 +55,7 @@ grown-again (Live a c k) n m = refl
 module _ (ll at : ℕ) where
   inside : (p : Place) (n : ℕ) → spaceOk ll at (roomOf p) ≡ true → startOk at p ≡ true → fits n (slotOf p) ≡ true
       → (start p ≡ at) × (at + n ≤ at + slotSize (slotOf p)) × (at + slotSize (slotOf p) ≤ ll)
-  inside (Fixed a m) n s b f = let z : _≡_ {A = ℕ} 0 1 = cc in absurd (omega arith)
+  inside (Fixed a m) n s b f = impossible (cc)
   inside (Live a c m) n s b f = (eqb-true a at b, omega (arith, leb-true n c f), leb-true (at + c) ll s)
 
   -- a value looks at its own slot alone
@@ -69,7 +70,7 @@ module _ (ll at : ℕ) where
 
 stored-value : (p : Place) (fixed live v : List ℕ) → fits (length v) (slotOf p) ≡ true → start p + length v ≤ length live
     → valueOf (grown p (length v)) fixed (overAt (start p) v live) ≡ v
-stored-value (Fixed a m) fixed live v f h = let z : _≡_ {A = ℕ} 0 1 = cc in absurd (omega arith)
+stored-value (Fixed a m) fixed live v f h = impossible (cc)
 stored-value (Live a c m) fixed live v f h = over-at-there a v live h
 
 -- Records.
@@ -185,7 +186,7 @@ module _ (t : Table) (h : ℕ) (v : List ℕ) where
   stored-entries = take-mapFirst (t .count) (relength h (length v)) (t .records)
 
   module _ (fixed live : List ℕ) (s : soundTable t (length fixed) (length live) ≡ true) where
-    pub store-ledger : itemsOf (relengthed t h (length v)) fixed (writtenLive h v (entries t) live) ≡ map (put h v) (itemsOf t fixed live)
+    pub store-ledger : ledgerOf (relengthed t h (length v)) fixed (writtenLive h v (entries t) live) ≡ map (put h v) (ledgerOf t fixed live)
     store-ledger =
         rw stored-entries
         (ledger-written h v (length fixed) (length live) fixed 0 0 live (entries t) (sound-parts t (length fixed) (length live) s .records) refl)
@@ -267,8 +268,8 @@ module _ (fl ll : ℕ) where
         (λ p. none h (length v) (r .handle) (slotsEnd at r) n rs (g .1) p) (λ p. unwritten h (length v) v live (r .handle) (slotsEnd at r) (take n rs) (g .1) p)
       where
         unfit : (s : Slot) → slotRefusal (length v) s ≡ Refused why → fits (length v) s ≡ true → ⊥
-        unfit Kept e f = let z : _≡_ {A = ℕ} 0 1 = cc in omega arith
-        unfit (Room c) e f = let x : Accepted ≡ Refused why = rw f at e in let z : _≡_ {A = ℕ} 0 1 = cc in omega arith
+        unfit Kept e f = impossible (cc)
+        unfit (Room c) e f = let x : Accepted ≡ Refused why = rw f at e in impossible (cc)
 
         by : (b f : Bool) → eqb (r .handle) h ≡ b → fits (length v) (slotOf (r .place)) ≡ f
             → (storeRefusal h (length v) (map (item fixed live) (take n rs)) ≡ Refused why
@@ -283,21 +284,43 @@ module _ (fl ll : ℕ) where
             let k = ih (rw q at e) in
             (rw q (ap (λ l. r ∷ l) (k .0)), rw q (k .1))
 
+-- The till's own store: its tests of handle and slot are what the slot of the attribute says.
+pub store-tests : (h n : ℕ) (is : List Item) → tested (storeTests h n is) ≡ storeRefusal h n is
+store-tests h n [] = refl
+store-tests h n (i ∷ is) = by (eqb (i .handle) h) (store-tests h n is)
+  where
+    slot : (s : Slot) → tested ((true, UnknownHandle) ∷ (isRoom s, NotStorable) ∷ (fits n s, TooLong) ∷ []) ≡ slotRefusal n s
+    slot Kept = refl
+    slot (Room c) = refl
+
+    by : (b : Bool) → tested (storeTests h n is) ≡ storeRefusal h n is
+        → tested ((pick b true (present h is), UnknownHandle) ∷ (pick b (isRoom (i .slot)) (storable h is), NotStorable) ∷ (pick b (fits n (i .slot)) (roomy h n is), TooLong) ∷ [])
+        ≡ pick b (slotRefusal n (i .slot)) (storeRefusal h n is)
+    by true e = slot (i .slot)
+    by false e = e
+
+pub own-tests : (t : Table) (h n : ℕ) (fixed live : List ℕ) (b : Bool) → soundTable t (length fixed) (length live) ≡ b
+    → ownRefusal t h n fixed live ≡ pick b (storeRefusal h n (ledgerOf t fixed live)) (Refused BadTable)
+unfolding ownRefusal
+own-tests t h n fixed live true e = rw e (store-tests h n (ledgerOf t fixed live))
+own-tests t h n fixed live false e = rw e
+
 module _ (t : Table) (h : ℕ) (v fixed live : List ℕ) (s : soundTable t (length fixed) (length live) ≡ true) where
-  pub refused-store : (why : Refusal) → storeRefusal h (length v) (itemsOf t fixed live) ≡ Refused why
+  pub refused-store : (why : Refusal) → storeRefusal h (length v) (ledgerOf t fixed live) ≡ Refused why
       → (relengthed t h (length v) ≡ t) × (writtenLive h v (entries t) live ≡ live)
   refused-store why e =
       let u = store-refused (length fixed) (length live) h v fixed live why 0 0 (t .count) (t .records) (sound-parts t (length fixed) (length live) s .records) e in
       (ap (λ (l : List Record). record { records = l; count = t .count; «fixed_len» = t .«fixed_len»; «live_len» = t .«live_len» }) (u .0), u .1)
 
   -- so on a sound table the till's own store is the store, whatever it answers
-  pub own-store : (ownRefusal t h (length v) fixed live ≡ storeRefusal h (length v) (itemsOf t fixed live))
+  pub own-store : (ownRefusal t h (length v) fixed live ≡ storeRefusal h (length v) (ledgerOf t fixed live))
       × (stored t h v fixed live .table ≡ relengthed t h (length v)) × (storedLive t h v fixed live ≡ writtenLive h v (entries t) live)
-  unfolding ownRefusal stored storedLive
+  unfolding stored storedLive
   own-store =
-      rw s (refl, by (storeRefusal h (length v) (itemsOf t fixed live)) refl .0, by (storeRefusal h (length v) (itemsOf t fixed live)) refl .1)
+      rw (own-tests t h (length v) fixed live true s)
+      (refl, by (storeRefusal h (length v) (ledgerOf t fixed live)) refl .0, by (storeRefusal h (length v) (ledgerOf t fixed live)) refl .1)
     where
-      by : (o : Outcome) → storeRefusal h (length v) (itemsOf t fixed live) ≡ o
+      by : (o : Outcome) → storeRefusal h (length v) (ledgerOf t fixed live) ≡ o
           → (changedBy o (relengthed t h (length v)) t .table ≡ relengthed t h (length v)) × (liveBy o (writtenLive h v (entries t) live) live ≡ writtenLive h v (entries t) live)
       by Accepted e = (refl, refl)
       by (Refused why) e = let k = refused-store why e in (sym (k .0), sym (k .1))

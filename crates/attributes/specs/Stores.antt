@@ -1,16 +1,17 @@
 -- Document 01, "Table, link and the till's own stores": what a store does, to the table, to the live bytes and to the ledger, and
 -- the till's own store with its refusals. A store that concerns no record changes nothing.
 use Prim.Native.Nat.{ℕ, zero, suc}
-use mathlib.Core.Bool.{Bool, _&&_}
+use mathlib.Core.Bool.{Bool, true, false, _&&_}
 use mathlib.Core.List.{List, [], _∷_}
 use lib.ListN.{length}
 use lib.Dec.{leb, eqb}
 use Rattle.codec.specs.Buffer.{overAt}
 use Rattle.codec.specs.Cases.{pick}
+use Rattle.codec.specs.declared.Refusal.{Refusal}
 use Rattle.codec.specs.declared.Refusal.the-variants.{UnknownHandle, NotStorable, TooLong, BadTable}
-use Rattle.attributes.specs.Additions.{changedBy}
-use Rattle.attributes.specs.Ledger.{Item, itemsOf, valued, atHandle}
-use Rattle.attributes.specs.Records.{Slot, Kept, Room, entries, slotOf, fits, start, lengthened}
+use Rattle.attributes.specs.Additions.{tested, changedBy}
+use Rattle.attributes.specs.Ledger.{Item, ledgerOf, valued, itemAt}
+use Rattle.attributes.specs.Records.{Slot, Kept, Room, entries, slotOf, fits, isRoom, start, lengthened}
 use Rattle.attributes.specs.Soundness.{soundTable}
 use Rattle.attributes.specs.declared.Changed.{Changed}
 use Rattle.attributes.specs.declared.Outcome.{Outcome}
@@ -49,16 +50,33 @@ writtenLive h v (r ∷ rs) live =
 abbrev pub put : ℕ → List ℕ → Item → Item
 put h v i = pick (takes h (length v) (i .handle) (i .slot)) (valued i v) i
 
--- The till's own store of `n` bytes, whatever the marks: 11, then 8, 9 or 10.
+-- The till's own store of `n` bytes, whatever the marks, tests 11, 8, 9, 10: there is an attribute with the handle, it is not fixed, and
+-- its slot has the room.
+abbrev pub present : ℕ → List Item → Bool
+present h is = itemAt h (λ i. true) false is
+
+abbrev pub storable : ℕ → List Item → Bool
+storable h is = itemAt h (λ i. isRoom (i .slot)) false is
+
+abbrev pub roomy : ℕ → ℕ → List Item → Bool
+roomy h n is = itemAt h (λ i. fits n (i .slot)) false is
+
+abbrev pub storeTests : ℕ → ℕ → List Item → List (Bool × Refusal)
+storeTests h n is = (present h is, UnknownHandle) ∷ (storable h is, NotStorable) ∷ (roomy h n is, TooLong) ∷ []
+
+abbrev pub ownTests : Table → ℕ → ℕ → List ℕ → List ℕ → List (Bool × Refusal)
+ownTests t h n fixed live = (soundTable t (length fixed) (length live), BadTable) ∷ storeTests h n (ledgerOf t fixed live)
+
+unfoldable pub ownRefusal : Table → ℕ → ℕ → List ℕ → List ℕ → Outcome
+ownRefusal t h n fixed live = tested (ownTests t h n fixed live)
+
+-- what a slot says to a store, and the slot of the attribute with the handle: the last three tests in another form (`store-tests`)
 abbrev pub slotRefusal : ℕ → Slot → Outcome
 slotRefusal n Kept = Refused NotStorable
 slotRefusal n (Room c) = pick (leb n c) Accepted (Refused TooLong)
 
 abbrev pub storeRefusal : ℕ → ℕ → List Item → Outcome
-storeRefusal h n is = atHandle h (λ i. slotRefusal n (i .slot)) (Refused UnknownHandle) is
-
-unfoldable pub ownRefusal : Table → ℕ → ℕ → List ℕ → List ℕ → Outcome
-ownRefusal t h n fixed live = pick (soundTable t (length fixed) (length live)) (storeRefusal h n (itemsOf t fixed live)) (Refused BadTable)
+storeRefusal h n is = itemAt h (λ i. slotRefusal n (i .slot)) (Refused UnknownHandle) is
 
 unfoldable pub stored : Table → ℕ → List ℕ → List ℕ → List ℕ → Changed
 stored t h v fixed live = changedBy (ownRefusal t h (length v) fixed live) (relengthed t h (length v)) t

@@ -64,7 +64,7 @@ pub struct Changed {
 }
 
 // The number of a record among those of a table, from 0 on.
-pub enum Found {
+pub enum Sought {
     At(usize),
     Missing,
 }

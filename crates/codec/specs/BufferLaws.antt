@@ -4,7 +4,7 @@ use mathlib.Core.Path.{_≡_, refl, sym, ap, _∙_}
 use mathlib.Core.List.{List, [], _++_, append-assoc, append-nil}
 use native.Mathlib.Omega.{arith}
 use lib.ListN.{length, take, drop, length-append, length-drop, drop-of-length-le}
-use lib.Seq.{take-all, drop-drop, take-at, drop-at, drop-length, take-nil}
+use lib.Seq.{take-all, drop-drop, take-at, drop-at, drop-length, take-nil, length-take-le}
 use borrow.Author.Tests.{le-leb, lt-leb}
 use Rattle.codec.specs.Buffer.{over, laid, written, overAt, laidAt}
 use Rattle.codec.specs.declared.Error.the-variants.{InsufficientSpace}
@@ -55,6 +55,24 @@ laid-at pos bytes out h = rw (le-leb _ _ h)
 
 pub kept-at : (pos : ℕ) (bytes out : List ℕ) → length out < pos + length bytes → laidAt pos bytes out ≡ out
 kept-at pos bytes out h = rw (lt-leb _ _ h)
+
+-- two writes, one behind the other, are one write of both
+pub in-turn : (pos q : ℕ) (a b l : List ℕ) → q ≡ pos + length a → q + length b ≤ length l
+    → laidAt q b (laidAt pos a l) ≡ laidAt pos (a ++ b) l
+in-turn pos q a b l e h =
+    let front = take pos l ++ a in
+    let tail = drop (length a) (drop pos l) in
+    let n : length front ≡ q = simp length-append (omega (arith, length-take-le pos l (omega arith))) in
+    let whole : overAt pos a l ≡ front ++ tail = sym (append-assoc (take pos l) a tail) in
+    let k : q + length b ≤ length (front ++ tail) = rw (length-append front tail, length-drop, length-drop) (omega (arith, n)) in
+    let step : overAt q b (front ++ tail) ≡ overAt pos (a ++ b) l =
+    rw (take-at front tail q n, drop-at front tail q n, drop-drop (length b) (length a) (drop pos l), length-append a b, append-assoc, append-assoc) in
+    ap (λ (m : List ℕ). laidAt q b m) (laid-at pos a l (omega arith) ∙ whole) ∙ laid-at q b (front ++ tail) k ∙ step
+    ∙ sym (laid-at pos (a ++ b) l (omega (arith, length-append a b)))
+
+-- a write at the start
+pub laid-first : (bytes out : List ℕ) → length bytes ≤ length out → laidAt 0 bytes out ≡ over bytes out
+laid-first bytes out h = laid-at 0 bytes out (omega arith)
 
 -- the part of `n` bytes from `at` on, cut where the list ends
 pub part-past : (at n : ℕ) (l : List ℕ) → length l < at → take (length l - length l) (drop (length l) l) ≡ take n (drop at l)

@@ -1,5 +1,5 @@
 -- Laws of choosing. The default arm of a `match` on a number: a number of no row looks up the default. Two lists pass the test
--- `same` exactly when they are equal.
+-- `same` exactly when they are equal. A case that cannot be.
 use Prim.Native.Nat.{ℕ}
 use mathlib.Core.Path.{_≡_, refl, sym, ap, _∙_}
 use mathlib.Core.Bool.{Bool, true, false, _&&_}
@@ -7,12 +7,11 @@ use mathlib.Core.List.{List, [], _∷_}
 use native.Mathlib.Omega.{arith}
 use lib.Dec.{eqb}
 use borrow.Author.Tests.{eq-eqb, ne-eqb, eqb-true}
-use Rattle.codec.specs.Cases.{lookup, same}
+use Rattle.codec.specs.Cases.{lookup, None, same}
 
--- `k` is the number of no row, in the form in which a `match` says it of its last arm: a tuple nested to the left
-abbrev pub None : {A : Type 0} → ℕ → Type 0 → List (ℕ × A) → Type 0
-None k T [] = T
-None k T (row ∷ rows) = None k (T × (k ≡ row .0 → ⊥)) rows
+-- A case that cannot be: what is known there makes 0 equal 1, which `cc` shows of two constructors taken for equal.
+pub impossible : {A : Type 0} → _≡_ {A = ℕ} 0 1 → A
+impossible e = absurd (omega arith)
 
 abbrev Differs : {A : Type 0} → ℕ → List (ℕ × A) → Type 0
 Differs k [] = Unit

@@ -7,19 +7,19 @@ use Rattle.codec.specs.declared.Error.the-variants as error
 use Rattle.codec.specs.declared.Refusal.{Refusal}
 use Rattle.codec.specs.declared.Refusal.the-variants.{InsufficientSpace, InvalidValue, TableFull, BadHandle, BadType, BadValue, NoRoom, UnknownHandle, NotStorable, TooLong, BadTable, BadLink}
 
-abbrev pub numberOf : Refusal → ℕ
-numberOf InsufficientSpace = 1
-numberOf InvalidValue = 2
-numberOf TableFull = 3
-numberOf BadHandle = 4
-numberOf BadType = 5
-numberOf BadValue = 6
-numberOf NoRoom = 7
-numberOf UnknownHandle = 8
-numberOf NotStorable = 9
-numberOf TooLong = 10
-numberOf BadTable = 11
-numberOf BadLink = 12
+abbrev pub refusalNumber : Refusal → ℕ
+refusalNumber InsufficientSpace = 1
+refusalNumber InvalidValue = 2
+refusalNumber TableFull = 3
+refusalNumber BadHandle = 4
+refusalNumber BadType = 5
+refusalNumber BadValue = 6
+refusalNumber NoRoom = 7
+refusalNumber UnknownHandle = 8
+refusalNumber NotStorable = 9
+refusalNumber TooLong = 10
+refusalNumber BadTable = 11
+refusalNumber BadLink = 12
 
 abbrev pub nameOf : Refusal → List ℕ
 nameOf InsufficientSpace = ascii "InsufficientSpace"

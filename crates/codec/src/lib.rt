@@ -1,8 +1,10 @@
 // codec.rs: the two errors. Beside them document 01's table of refusals, and what a call that writes
 // into a lent buffer answers.
+//
+// A port of src/codec.rs of trouble-host 0.8.0, which was changed: see NOTICE.
 ghost use mathlib.Core.Path.{_≡_};
 ghost use Rattle.codec.specs.Buffer.{laid, written};
-ghost use Rattle.codec.specs.Refusals.{numberOf, nameOf, refusalOf};
+ghost use Rattle.codec.specs.Refusals.{refusalNumber, nameOf, refusalOf};
 
 pub enum Error {
     InsufficientSpace,
@@ -42,7 +44,7 @@ pub fn from_error(e: Error) -> Refusal
 }
 
 pub fn number(r: Refusal) -> u8
-    ensures { λ n. ⌜ n ≡ numberOf r ⌝ }
+    ensures { λ n. ⌜ n ≡ refusalNumber r ⌝ }
 {
     match r {
         Refusal::InsufficientSpace => 1,

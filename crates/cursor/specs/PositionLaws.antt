@@ -6,6 +6,7 @@ use mathlib.Core.List.{List, []}
 use native.Mathlib.Omega.{arith}
 use lib.Dec.{leb}
 use borrow.Author.Tests.{leb-true, leb-false}
+use Rattle.codec.specs.CasesLaws.{impossible}
 use Rattle.codec.specs.Cases.{pick}
 use Rattle.codec.specs.declared.Error.{Error}
 use Rattle.codec.specs.declared.Error.the-variants.{InsufficientSpace}
@@ -19,12 +20,12 @@ pub is-enough : (pos len n : ℕ) → pos + n ≤ len → enough pos len n ≡ t
 is-enough pos len n h = by (enough pos len n) refl where
   by : (t : Bool) → enough pos len n ≡ t → enough pos len n ≡ true
   by true e = e
-  by false e = let z : _≡_ {A = ℕ} 0 1 = omega (arith, leb-false) in cc
+  by false e = impossible (omega (arith, leb-false))
 
 pub not-enough : (pos len n : ℕ) → len < pos + n → enough pos len n ≡ false
 not-enough pos len n h = by (enough pos len n) refl where
   by : (t : Bool) → enough pos len n ≡ t → enough pos len n ≡ false
-  by true e = let z : _≡_ {A = ℕ} 0 1 = omega (arith, leb-true) in cc
+  by true e = impossible (omega (arith, leb-true))
   by false e = e
 
 -- so the answers, and the part
@@ -53,11 +54,11 @@ went pos len n next g f = by (leb (pos + n) len) refl (sym g ∙ f) where
   by : (t : Bool) → leb (pos + n) len ≡ t → moved.To next ≡ pick t (moved.To (pos + n)) (moved.Refused InsufficientSpace)
       → (next ≡ pos + n) × (pos + n ≤ len)
   by true h e = (cc, leb-true _ _ h)
-  by false h e = let z : _≡_ {A = ℕ} 0 1 = cc in (omega arith, omega arith)
+  by false h e = impossible (cc)
 
 pub stayed : {r : Moved} (pos len n : ℕ) (e : Error) → r ≡ moved.Refused e → r ≡ moving pos len n → (e ≡ InsufficientSpace) × (len < pos + n)
 stayed pos len n u g f = by (leb (pos + n) len) refl (sym g ∙ f) where
   by : (t : Bool) → leb (pos + n) len ≡ t → moved.Refused u ≡ pick t (moved.To (pos + n)) (moved.Refused InsufficientSpace)
       → (u ≡ InsufficientSpace) × (len < pos + n)
-  by true h e = let z : _≡_ {A = ℕ} 0 1 = cc in (cc, omega arith)
+  by true h e = impossible (cc)
   by false h e = (cc, leb-false _ _ h)

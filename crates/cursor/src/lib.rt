@@ -2,6 +2,8 @@
 // The position goes by value beside the lent bytes, in the order of cursor.rs's fields, and a call that
 // moves it answers the new one. Where a part is the answer, a refusal gives the empty part, and `given`
 // (for slice, `slice_answer`) says which it was.
+//
+// A port of src/cursor.rs of trouble-host 0.8.0, which was changed: see NOTICE.
 use codec::Error;
 ghost use mathlib.Core.Path.{_≡_};
 ghost use lib.ListN.{length};

@@ -9,13 +9,14 @@ use borrow.Author.Tests.{le-leb, lt-leb}
 use Rattle.codec.specs.Buffer.{over, laid, overAt, laidAt}
 use Rattle.codec.specs.BufferLaws.{to-the-end, lent-back}
 use Rattle.codec.specs.declared.Error.{Error}
-use Rattle.codec.specs.declared.Error.the-variants.{InsufficientSpace}
 use Rattle.primitives.specs.Numbers.{bytesOf, numberAt, limit}
 use Rattle.primitives.specs.NumbersLaws.{length-bytes, number-bytes}
-use Rattle.cursor.specs.Position.{parted}
+use Rattle.cursor.specs.Position.{moving, parted}
+use Rattle.cursor.specs.PositionLaws.{went, stayed}
 use Rattle.cursor.specs.Reading.{rest}
 use Rattle.cursor.specs.ReadingLaws.{rest-drop}
 use Rattle.cursor_write.specs.Writing.{writing, filled, splitFirst, splitSecond}
+use Rattle.cursor.specs.declared.Moved.{Moved}
 use Rattle.cursor.specs.declared.Moved.the-variants.{To, Refused}
 
 -- a part from the buffer's start
@@ -25,18 +26,19 @@ front-whole pos n k out h = let e : k - 0 ≡ k = omega arith in rw (e, le-leb _
 laid-over : (bytes out : List ℕ) → length bytes ≤ length out → laid bytes out ≡ over bytes out
 laid-over bytes out h = rw (le-leb _ _ h)
 
--- the part from the position on was lent, and came back with the bytes laid over it
-pub write-whole : (pos next : ℕ) (bytes out w : List ℕ) → (next ≡ pos + length bytes) × (pos + length bytes ≤ length out)
-    → w ≡ laid bytes (take (length out - pos) (drop pos out))
-    → (To next ≡ writing pos out bytes) × (take pos out ++ (w ++ drop (length out - pos) (drop pos out)) ≡ laidAt pos bytes out)
-write-whole pos next bytes out w h e =
-    let k : length bytes ≤ length (take (length out - pos) (drop pos out)) = rw (to-the-end pos out, length-drop) (omega arith) in
-    let b = lent-back bytes out w pos (e ∙ laid-over bytes _ k) in
-    rw (le-leb _ _ (h .1)) (ap To (h .0), b)
+-- What a write answers and leaves, once over its bytes, by what `forward` answered: the part from the position on was lent, and came
+-- back with the bytes laid over it; or nothing was written.
+module _ (pos : ℕ) (bytes out : List ℕ) {r : Moved} (told : r ≡ moving pos (length out) (length bytes)) where
+  pub write-went : (next : ℕ) (w : List ℕ) → r ≡ To next → w ≡ laid bytes (take (length out - pos) (drop pos out))
+      → (To next ≡ writing pos out bytes) × (take pos out ++ (w ++ drop (length out - pos) (drop pos out)) ≡ laidAt pos bytes out)
+  write-went next w g e =
+      let h = went pos (length out) (length bytes) next g told in
+      let k : length bytes ≤ length (take (length out - pos) (drop pos out)) = rw (to-the-end pos out, length-drop) (omega (arith, h .1)) in
+      let b = lent-back bytes out w pos (e ∙ laid-over bytes _ k) in
+      rw (le-leb _ _ (h .1)) (ap To (h .0), b)
 
-pub write-short : (pos : ℕ) (bytes out : List ℕ) (e : Error) → (e ≡ InsufficientSpace) × (length out < pos + length bytes)
-    → (Refused e ≡ writing pos out bytes) × (out ≡ laidAt pos bytes out)
-write-short pos bytes out e h = rw (lt-leb _ _ (h .1)) (ap Refused (h .0), refl)
+  pub write-stayed : (e : Error) → r ≡ Refused e → (Refused e ≡ writing pos out bytes) × (out ≡ laidAt pos bytes out)
+  write-stayed e g = let h = stayed pos (length out) (length bytes) e g told in rw (lt-leb _ _ (h .1)) (ap Refused (h .0), refl)
 
 -- the rest was lent whole, and came back with the bytes laid over it
 pub fill-whole : (pos : ℕ) (bytes out lent w : List ℕ) → pos + length bytes ≤ length out → lent ≡ rest pos out → w ≡ laid bytes lent

@@ -1,5 +1,7 @@
 // cursor.rs: the writing cursor. Its new, reset, len and available are the position's, in the crate cursor.
 // Where a part is the answer, a refusal lends the empty part, and `cursor::given` says which it was.
+//
+// A port of src/cursor.rs of trouble-host 0.8.0, which was changed: see NOTICE.
 use cursor::Moved;
 ghost use mathlib.Core.Path.{_≡_};
 ghost use lib.ListN.{length};

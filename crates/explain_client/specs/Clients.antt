@@ -11,38 +11,36 @@ use Rattle.att.specs.declared.AttCfm.{AttCfm}
 use Rattle.att.specs.declared.AttCfm.the-variants as cfm
 use Rattle.att.specs.declared.AttClient.{AttClient}
 use Rattle.att.specs.declared.AttClient.the-variants.{Request, Command, Confirmation}
-use Rattle.att_decode.specs.Tests.{field}
-use Rattle.print.specs.Print.{capitals, hexText, typeText}
-use Rattle.console.specs.Console.{numbered}
+use Rattle.text_put.specs.Put.{byted, numbered, typed}
+use Rattle.explain_field.specs.Fields.{fielded, pairTexts, valueTexts}
 
--- a text and the bytes of a data field
-abbrev pub fielded : List ℕ → Span → List ℕ → List (List ℕ)
-fielded name d src = name ∷ hexText (field d src) ∷ []
+-- the first and the last handle of a range, as the two finds name them
+abbrev pub rangeTexts : List ℕ → ℕ → ℕ → List (List ℕ)
+rangeTexts name s e = pairTexts name s (ascii " end_handle=") e
 
--- a text and a type
-abbrev pub typed : List ℕ → Uuid → List (List ℕ)
-typed name u = name ∷ typeText u ∷ []
+-- the type and the value that are looked for
+abbrev pub soughtTexts : ℕ → Span → List ℕ → List (List ℕ)
+soughtTexts t v src = numbered (ascii " att_type=") t ++ fielded (ascii " att_value=") v src
 
 abbrev pub requestTexts : AttReq → Uuid → List ℕ → List (List ℕ)
 requestTexts (req.ReadByGroupType s e) u src =
-    numbered (ascii "ReadByGroupType start=") s ++ (numbered (ascii " end=") e ++ typed (ascii " group_type=") u)
+    pairTexts (ascii "ReadByGroupType start=") s (ascii " end=") e ++ typed (ascii " group_type=") u
 requestTexts (req.ReadByType s e) u src =
-    numbered (ascii "ReadByType start=") s ++ (numbered (ascii " end=") e ++ typed (ascii " attribute_type=") u)
+    pairTexts (ascii "ReadByType start=") s (ascii " end=") e ++ typed (ascii " attribute_type=") u
 requestTexts (req.Read h) u src = numbered (ascii "Read handle=") h
-requestTexts (req.Write h d) u src = numbered (ascii "Write handle=") h ++ fielded (ascii " data=") d src
+requestTexts (req.Write h d) u src = valueTexts (ascii "Write handle=") h d src
 requestTexts (req.ExchangeMtu m) u src = numbered (ascii "ExchangeMtu mtu=") m
 requestTexts (req.FindByTypeValue s e t v) u src =
-    numbered (ascii "FindByTypeValue start_handle=") s
-    ++ (numbered (ascii " end_handle=") e ++ (numbered (ascii " att_type=") t ++ fielded (ascii " att_value=") v src))
-requestTexts (req.FindInformation s e) u src = numbered (ascii "FindInformation start_handle=") s ++ numbered (ascii " end_handle=") e
+    rangeTexts (ascii "FindByTypeValue start_handle=") s e ++ soughtTexts t v src
+requestTexts (req.FindInformation s e) u src = rangeTexts (ascii "FindInformation start_handle=") s e
 requestTexts (req.PrepareWrite h o v) u src =
-    numbered (ascii "PrepareWrite handle=") h ++ (numbered (ascii " offset=") o ++ fielded (ascii " value=") v src)
-requestTexts (req.ExecuteWrite f) u src = ascii "ExecuteWrite flags=" ∷ capitals (f ∷ []) ∷ []
+    pairTexts (ascii "PrepareWrite handle=") h (ascii " offset=") o ++ fielded (ascii " value=") v src
+requestTexts (req.ExecuteWrite f) u src = byted (ascii "ExecuteWrite flags=") f
 requestTexts (req.ReadMultiple hs) u src = fielded (ascii "ReadMultiple handles=") hs src
-requestTexts (req.ReadBlob h o) u src = numbered (ascii "ReadBlob handle=") h ++ numbered (ascii " offset=") o
+requestTexts (req.ReadBlob h o) u src = pairTexts (ascii "ReadBlob handle=") h (ascii " offset=") o
 
 abbrev pub commandTexts : AttCmd → List ℕ → List (List ℕ)
-commandTexts c src = numbered (ascii "client command Write handle=") (c .handle) ++ fielded (ascii " data=") (c .«data») src
+commandTexts c src = valueTexts (ascii "client command Write handle=") (c .handle) (c .«data») src
 
 abbrev pub confirmationTexts : AttCfm → List (List ℕ)
 confirmationTexts cfm.ConfirmIndication = ascii "client confirmation ConfirmIndication" ∷ []

@@ -7,7 +7,7 @@ use Rattle.att.specs.declared.AttReq.{AttReq}
 use Rattle.att.specs.declared.AttCfm.{AttCfm}
 use Rattle.att.specs.declared.AttCfm.the-variants.{ConfirmIndication}
 use Rattle.att.specs.declared.AttClient.{AttClient}
-use Rattle.console.specs.ConsoleLaws.{Wrote}
+use Rattle.text_put.specs.PutLaws.{Wrote}
 use Rattle.explain_client.specs.Clients.{requestTexts, confirmationTexts, clientTexts}
 
 pub request-as : (r q : AttReq) (u : Uuid) (src : List ℕ) (pos : ℕ) (out : List ℕ) (n : ℕ) (w : List ℕ) → r ≡ q

@@ -1,10 +1,11 @@
 -- Laws of the items' texts, in the shapes that the proofs of the code ask for.
 use Prim.Native.Nat.{ℕ, zero, suc, _-_, _<_, _≤_}
 use mathlib.Core.Path.{_≡_, refl, sym, ap, _∙_}
-use mathlib.Core.Bool.{Bool, true, false, not, false≢true}
+use mathlib.Core.Bool.{Bool, true, false, false≢true}
 use mathlib.Core.List.{List, [], _∷_, _++_, flatMap}
 use native.Mathlib.Omega.{arith}
 use lib.ListN.{take, drop}
+use Rattle.codec.specs.CasesLaws.{impossible}
 use Rattle.codec.specs.Ascii.{ascii}
 use Rattle.primitives.specs.Numbers.{numberAt}
 use Rattle.uuid.specs.Uuids.{uuidOf}
@@ -18,9 +19,9 @@ use Rattle.att_items.specs.declared.HandleUuid.{HandleUuid}
 use Rattle.att_items.specs.declared.HandleUuid.the-variants as handleUuid
 use Rattle.att_items.specs.declared.Information.{Information}
 use Rattle.att_items.specs.declared.HandleValue.the-variants as handleValue
-use Rattle.print.specs.Print.{hexText, typeText}
-use Rattle.console.specs.Console.{behind, holding, numbered}
-use Rattle.console.specs.ConsoleLaws.{Wrote, behind-append, holding-append}
+use Rattle.text_print.specs.Print.{hexText, typeText}
+use Rattle.text_put.specs.Put.{behind, holding, numbered}
+use Rattle.text_put.specs.PutLaws.{Wrote, behind-append, holding-append}
 use Rattle.explain_items.specs.Items.{Kind, informations, ranges, values, stepIn, shownAs, lineAs, textsFrom}
 use Rattle.explain_items.specs.declared.Shown.{Shown}
 
@@ -36,11 +37,11 @@ range-item (Item a l m) src at pos out h e n r w q p =
     let y : numberAt 2 2 (take l (drop a src)) ≡ e = cc in
     let z : m ≡ n = cc in
     rw (x, y, z) (ap (λ (t : ℕ). shown t n true) (p .0), p .1)
-range-item End src at pos out h e n r w q p = let z : _≡_ {A = ℕ} 0 1 = cc in absurd (omega arith)
+range-item End src at pos out h e n r w q p = impossible (cc)
 
 pub range-end : (st : Step) (src : List ℕ) (at pos : ℕ) (out : List ℕ) → pairOf st src ≡ handlePair.End
     → (shown at pos false ≡ shownAs (ranges .texts) st src at pos out) × (out ≡ lineAs (ranges .texts) st src at out)
-range-end (Item a l m) src at pos out q = let z : _≡_ {A = ℕ} 0 1 = cc in absurd (omega arith)
+range-end (Item a l m) src at pos out q = impossible (cc)
 range-end End src at pos out q = (refl, refl)
 
 -- an item of Find Information Response, and its end
@@ -55,13 +56,13 @@ information-item (Item a l m) i src at pos out h n r w f q p =
     rw (x, y, z) (ap (λ (t : ℕ). shown t n true) (p .0), p .1)
 information-item End i src at pos out h n r w f q p =
     let g : handleUuid.End ≡ handleUuid.Item h n = sym (ap (λ (j : Information). j .answer) f) ∙ q in
-    let z : _≡_ {A = ℕ} 0 1 = cc in absurd (omega arith)
+    impossible (cc)
 
 pub information-end : (st : Step) (i : Information) (src : List ℕ) (at pos : ℕ) (out : List ℕ) → i ≡ informationOf st src → i .answer ≡ handleUuid.End
     → (shown at pos false ≡ shownAs (informations .texts) st src at pos out) × (out ≡ lineAs (informations .texts) st src at out)
 information-end (Item a l m) i src at pos out f q =
     let g : handleUuid.Item (numberAt 2 0 (take l (drop a src))) m ≡ handleUuid.End = sym (ap (λ (j : Information). j .answer) f) ∙ q in
-    let z : _≡_ {A = ℕ} 0 1 = cc in absurd (omega arith)
+    impossible (cc)
 information-end End i src at pos out f q = (refl, refl)
 
 -- an item of Read By Type Response or Read By Group Type Response, and its end
@@ -72,17 +73,12 @@ value-item (Item a l m) src at pos out h d n r rest w q f p =
     let x : numberAt 2 0 (take l (drop a src)) ≡ h = cc in
     let z : m ≡ n = cc in
     rw (x, sym f, z) (ap (λ (t : ℕ). shown t n true) (p .0), p .1)
-value-item End src at pos out h d n r rest w q f p = let z : _≡_ {A = ℕ} 0 1 = cc in absurd (omega arith)
+value-item End src at pos out h d n r rest w q f p = impossible (cc)
 
 pub value-end : (st : Step) (src : List ℕ) (at pos : ℕ) (out : List ℕ) → valueOf st src ≡ handleValue.End
     → (shown at pos false ≡ shownAs (values .texts) st src at pos out) × (out ≡ lineAs (values .texts) st src at out)
-value-end (Item a l m) src at pos out q = let z : _≡_ {A = ℕ} 0 1 = cc in absurd (omega arith)
+value-end (Item a l m) src at pos out q = impossible (cc)
 value-end End src at pos out q = (refl, refl)
-
--- a test that does not fail
-pub unflipped : (b : Bool) → not b ≡ false → b ≡ true
-unflipped true h = refl
-unflipped false h = sym h
 
 -- How far the items are written: what is still to be written behind `at` makes the whole line.
 pub record Writing (k : Kind) (att : Att) (src : List ℕ) (start : ℕ) (before : List ℕ) (all : ℕ) (at : ℕ) (out : List ℕ) (pos left : ℕ) : Type 0 where

@@ -7,8 +7,8 @@ use att_items::HandlePair;
 use att_items::HandleUuid;
 use att_items::HandleValue;
 ghost use mathlib.Core.Path.{_≡_};
-ghost use Rattle.console.specs.Console.{behind, holding};
-ghost use Rattle.explain_items.specs.Items.{informations, ranges, values, kindOf, stepIn, shownAs, lineAs, itemsTexts};
+ghost use Rattle.text_put.specs.Put.{behind, holding};
+ghost use Rattle.explain_items.specs.Items.{informations, ranges, values, kindOf, shownAt, lineAt, itemsTexts};
 
 // What an item was written as: the position behind it on the line, and the position of the next item;
 // or that there is none.
@@ -20,13 +20,13 @@ struct Shown {
 
 // An item of Find By Type Value Response.
 fn range(att: Att, src: &[u8], out: &mut [u8], at: usize, pos: usize) -> Shown
-    ensures { λ r. ⌜ r ≡ shownAs (ranges .texts) (stepIn ranges att (now (src .entry)) pos) (now (src .entry)) at pos (now (out .entry)) ⌝ }
-    ensures { λ _. ⌜ now (out .exit) ≡ lineAs (ranges .texts) (stepIn ranges att (now (src .entry)) pos) (now (src .entry)) at (now (out .entry)) ⌝ }
+    ensures { λ r. ⌜ r ≡ shownAt ranges att (now (src .entry)) at pos (now (out .entry)) ⌝ }
+    ensures { λ _. ⌜ now (out .exit) ≡ lineAt ranges att (now (src .entry)) at pos (now (out .entry)) ⌝ }
 {
     match att_items::find_by_type_value_next(att, src, pos) {
         HandlePair::Item { handle, end, next } => {
-            let at = console::word(out, at, b" item=", handle);
-            let at = console::word(out, at, b":", end);
+            let at = text_put::word(out, at, b" item=", handle);
+            let at = text_put::word(out, at, b":", end);
             Shown {
                 at,
                 next,
@@ -43,16 +43,16 @@ fn range(att: Att, src: &[u8], out: &mut [u8], at: usize, pos: usize) -> Shown
 
 // An item of Find Information Response.
 fn information(att: Att, src: &[u8], out: &mut [u8], at: usize, pos: usize) -> Shown
-    ensures { λ r. ⌜ r ≡ shownAs (informations .texts) (stepIn informations att (now (src .entry)) pos) (now (src .entry)) at pos (now (out .entry)) ⌝ }
-    ensures { λ _. ⌜ now (out .exit) ≡ lineAs (informations .texts) (stepIn informations att (now (src .entry)) pos) (now (src .entry)) at (now (out .entry)) ⌝ }
+    ensures { λ r. ⌜ r ≡ shownAt informations att (now (src .entry)) at pos (now (out .entry)) ⌝ }
+    ensures { λ _. ⌜ now (out .exit) ≡ lineAt informations att (now (src .entry)) at pos (now (out .entry)) ⌝ }
 {
     let item = att_items::find_information_next(att, src, pos);
     let answer = item.answer;
     let uuid = item.uuid;
     match answer {
         HandleUuid::Item { handle, next } => {
-            let at = console::word(out, at, b" item=", handle);
-            let at = console::kind(out, at, b":", uuid);
+            let at = text_put::word(out, at, b" item=", handle);
+            let at = text_put::kind(out, at, b":", uuid);
             Shown {
                 at,
                 next,
@@ -69,8 +69,8 @@ fn information(att: Att, src: &[u8], out: &mut [u8], at: usize, pos: usize) -> S
 
 // An item of Read By Type Response or Read By Group Type Response.
 fn value(att: Att, src: &[u8], out: &mut [u8], at: usize, pos: usize) -> Shown
-    ensures { λ r. ⌜ r ≡ shownAs (values .texts) (stepIn values att (now (src .entry)) pos) (now (src .entry)) at pos (now (out .entry)) ⌝ }
-    ensures { λ _. ⌜ now (out .exit) ≡ lineAs (values .texts) (stepIn values att (now (src .entry)) pos) (now (src .entry)) at (now (out .entry)) ⌝ }
+    ensures { λ r. ⌜ r ≡ shownAt values att (now (src .entry)) at pos (now (out .entry)) ⌝ }
+    ensures { λ _. ⌜ now (out .exit) ≡ lineAt values att (now (src .entry)) at pos (now (out .entry)) ⌝ }
 {
     match att_items::read_by_type_next(att, src, pos) {
         HandleValue::Item {
@@ -79,8 +79,8 @@ fn value(att: Att, src: &[u8], out: &mut [u8], at: usize, pos: usize) -> Shown
             next,
         } => {
             let rest = att_items::read_by_type_rest(att, src, pos);
-            let at = console::word(out, at, b" item=", handle);
-            let at = console::hex(out, at, b":", rest);
+            let at = text_put::word(out, at, b" item=", handle);
+            let at = text_put::hex(out, at, b":", rest);
             Shown {
                 at,
                 next,
@@ -97,8 +97,8 @@ fn value(att: Att, src: &[u8], out: &mut [u8], at: usize, pos: usize) -> Shown
 
 // An item of the response with this opcode.
 fn item(op: u8, att: Att, src: &[u8], out: &mut [u8], at: usize, pos: usize) -> Shown
-    ensures { λ r. ⌜ r ≡ shownAs ((kindOf op) .texts) (stepIn (kindOf op) att (now (src .entry)) pos) (now (src .entry)) at pos (now (out .entry)) ⌝ }
-    ensures { λ _. ⌜ now (out .exit) ≡ lineAs ((kindOf op) .texts) (stepIn (kindOf op) att (now (src .entry)) pos) (now (src .entry)) at (now (out .entry)) ⌝ }
+    ensures { λ r. ⌜ r ≡ shownAt (kindOf op) att (now (src .entry)) at pos (now (out .entry)) ⌝ }
+    ensures { λ _. ⌜ now (out .exit) ≡ lineAt (kindOf op) att (now (src .entry)) at pos (now (out .entry)) ⌝ }
 {
     match op {
         0x05 => information(att, src, out, at, pos),

@@ -1,4 +1,6 @@
 // types/primitives.rs: u8, u16 and u32, read from and written to the start of a slice, little-endian.
+//
+// A port of src/types/primitives.rs of trouble-host 0.8.0, which was changed: see NOTICE.
 use codec::Error;
 use codec::Written;
 ghost use mathlib.Core.Path.{_≡_};

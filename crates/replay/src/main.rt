@@ -1,8 +1,10 @@
 // The answers of the port, for the comparison with the Rust: each line of standard input is a request,
 // `? REQUEST`, which is answered, or `TAG REQUEST = REPLY`, whose answer is held to REPLY. oracle/README.md
 // has the requests and the replies.
-use console::Input;
-use lines::Seen;
+use text_console::Input;
+use text_lines::Seen;
+ghost use Prim.Native.Nat.{_≤_};
+ghost use lib.ListN.{length};
 
 // The lines with a REPLY so far, and how many of them were answered otherwise.
 struct Tally {
@@ -18,7 +20,7 @@ struct Turned {
 
 // The reply to a request: the words behind the first.
 fn reply(line: &[u8], out: &mut [u8]) -> usize {
-    match replay_base::letter(lines::word(line, 1)) {
+    match replay_base::letter(text_lines::word(line, 1)) {
         b'P' => replay_packets::packet(line, out),
         b'Y' => replay_packets::typed(line, out),
         b'U' => replay_values::uuid(line, out),
@@ -26,9 +28,9 @@ fn reply(line: &[u8], out: &mut [u8]) -> usize {
         b'T' => replay_values::text(line, out),
         b'D' => replay_values::decoded(line, out),
         b'E' => replay_values::encoded(line, out),
-        b'R' => replay_read::read(line, out),
-        b'W' => replay_write::write_walk(line, out),
-        _ => print::text(out, 0, b"unknown request"),
+        b'R' => replay_walk::read(line, out),
+        b'W' => replay_walk::write_walk(line, out),
+        _ => text_print::text(out, 0, b"unknown request"),
     }
 }
 
@@ -46,32 +48,30 @@ fn marked(bytes: &[u8], c: u8) -> bool {
     bytes[2] == 32
 }
 
-// What stands behind the first such mark, and what stands before it.
-fn behind(line: &[u8], c: u8) -> &[u8] {
+// Where the first such mark stands; the line's length where there is none.
+fn mark(line: &[u8], c: u8) -> usize
+    ensures { λ r. ⌜ r ≤ length (now (line .entry)) ⌝ }
+{
     let mut i = 0;
     while i < line.len() {
         if marked(&line[i..], c) {
-            return cursor::remaining(3, &line[i..]);
+            return i;
         }
         i += 1;
     }
-    &line[0..0]
+    i
 }
 
-fn before(line: &[u8], c: u8) -> &[u8] {
-    let mut i = 0;
-    while i < line.len() {
-        if marked(&line[i..], c) {
-            return &line[0..i];
-        }
-        i += 1;
-    }
-    line
+// What stands behind the mark.
+fn behind(line: &[u8], c: u8) -> &[u8] {
+    let at = mark(line, c);
+    cursor::remaining(3, &line[at..])
 }
 
 // REPLY: behind ` = `, up to ` | ` or the end.
 fn wanted(line: &[u8]) -> &[u8] {
-    before(behind(line, b'='), b'|')
+    let reply = behind(line, b'=');
+    text_put::first(reply, mark(reply, b'|'))
 }
 
 fn counted(n: u64) -> u64 {
@@ -80,17 +80,17 @@ fn counted(n: u64) -> u64 {
 
 fn write_difference(number: u64, own: &[u8]) {
     let mut out = [0u8; 16448];
-    let at = console::count(&mut out, 0, b"line ", number);
-    let at = print::text(&mut out, at, b": ");
-    let at = print::text(&mut out, at, own);
-    console::write_line(&mut out, at);
+    let at = text_put::count(&mut out, 0, b"line ", number);
+    let at = text_print::text(&mut out, at, b": ");
+    let at = text_print::text(&mut out, at, own);
+    text_console::write_line(&mut out, at);
 }
 
 // A line with a REPLY: nothing is written where the answer is the same.
 fn compare(line: &[u8], number: u64, tally: Tally) -> Tally {
     let mut out = [0u8; 16384];
     let n = reply(line, &mut out);
-    let own = console::first(&out, n);
+    let own = text_put::first(&out, n);
     let lines = counted(tally.lines);
     if check::same(own, wanted(line)) {
         return Tally {
@@ -108,11 +108,11 @@ fn compare(line: &[u8], number: u64, tally: Tally) -> Tally {
 fn answer(line: &[u8]) {
     let mut out = [0u8; 16384];
     let at = reply(line, &mut out);
-    console::write_line(&mut out, at);
+    text_console::write_line(&mut out, at);
 }
 
 fn take(line: &[u8], number: u64, tally: Tally) -> Tally {
-    if replay_base::letter(lines::word(line, 0)) == b'?' {
+    if replay_base::letter(text_lines::word(line, 0)) == b'?' {
         answer(line);
         return tally;
     }
@@ -122,9 +122,9 @@ fn take(line: &[u8], number: u64, tally: Tally) -> Tally {
 fn take_seen(seen: Seen, number: u64, line: &[u8], tally: Tally) -> Tally {
     match seen {
         Seen::More => tally,
-        Seen::Line(n) => take(console::first(line, n), number, tally),
+        Seen::Line(n) => take(text_put::first(line, n), number, tally),
         Seen::TooLong => {
-            console::complain(number, b"too long");
+            text_console::complain(number, b"too long");
             tally
         }
         Seen::Passed => tally,
@@ -137,13 +137,13 @@ fn conclude(tally: Tally) {
     if tally.lines == 0 {
         return;
     }
-    let at = console::count(&mut out, 0, b"compared ", tally.lines);
-    let at = console::count(&mut out, at, b", different ", tally.different);
-    console::write_line(&mut out, at);
+    let at = text_put::count(&mut out, 0, b"compared ", tally.lines);
+    let at = text_put::count(&mut out, at, b", different ", tally.different);
+    text_console::write_line(&mut out, at);
 }
 
 fn turn(input: Input, tally: Tally, buf: &mut [u8], line: &mut [u8]) -> Turned {
-    let came = console::next(input, buf, line);
+    let came = text_console::next(input, buf, line);
     let seen = came.seen;
     let next = came.input;
     let tally = take_seen(seen, came.number, line, tally);
@@ -156,7 +156,7 @@ fn turn(input: Input, tally: Tally, buf: &mut [u8], line: &mut [u8]) -> Turned {
 
 // A proved loop has to end, so it counts its turns down from a number that no run uses up.
 fn run(buf: &mut [u8], line: &mut [u8]) {
-    let mut input = console::start();
+    let mut input = text_console::start();
     let mut tally = Tally {
         lines: 0,
         different: 0,

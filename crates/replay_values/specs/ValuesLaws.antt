@@ -10,17 +10,18 @@ use borrow.Author.Tests.{ne-eqb, le-leb}
 use Rattle.codec.specs.Ascii.{ascii}
 use Rattle.codec.specs.Buffer.{laidAt}
 use Rattle.codec.specs.Cases.{pick}
-use Rattle.console.specs.Console.{firstOf, behind, holding}
-use Rattle.hex.specs.Hex.{Meaning, none, some, hexMeans, answered, filled}
+use Rattle.text_put.specs.Put.{firstOf, behind, holding}
+use Rattle.text_hex.specs.Hex.{Meaning, none, some, hexMeans, answered, filled}
 use Rattle.primitives.specs.declared.ReadU8.{ReadU8}
 use Rattle.primitives.specs.declared.ReadU16.{ReadU16}
 use Rattle.primitives.specs.declared.ReadU32.{ReadU32}
-use Rattle.print.specs.Print.{placed, hexText, decimalText}
+use Rattle.text_print.specs.Print.{placed, hexText}
+use Rattle.text_decimal.specs.Decimal.{decimalText}
 use Rattle.replay_base.specs.Base.{sizeOf}
-use Rattle.console.specs.ConsoleLaws.{Wrote, one, as-texts}
-use Rattle.replay_base.specs.BaseLaws.{first-laid}
+use Rattle.text_put.specs.PutLaws.{Wrote, one, as-texts}
+use Rattle.text_put.specs.PutLaws.{first-laid}
 use Rattle.uuid.specs.Uuids.{rawOf, equal, uuidOf, sliced}
-use Rattle.uuid.specs.declared.Answer.{Answer}
+use Rattle.uuid.specs.declared.Checked.{Checked}
 use Rattle.uuid.specs.declared.Raw.{Raw}
 use Rattle.uuid.specs.declared.Sliced.{Sliced}
 use Rattle.uuid.specs.declared.Uuid.{Uuid}
@@ -72,7 +73,7 @@ module _ (pos : ℕ) (out : List ℕ) (r : ℕ) (w : List ℕ) where
       → Wrote (rawTexts l) pos out r w
   raw-as a l e p = rw e at p
 
-  pub uuid-as : (s : Sliced) (a : Answer) (f src : List ℕ) → s ≡ sliced f → f ≡ src → s .answer ≡ a → Wrote (uuidSaid a (s .uuid)) pos out r w
+  pub uuid-as : (s : Sliced) (a : Checked) (f src : List ℕ) → s ≡ sliced f → f ≡ src → s .answer ≡ a → Wrote (uuidSaid a (s .uuid)) pos out r w
       → Wrote (uuidSaid (sliced src .answer) (sliced src .uuid)) pos out r w
   uuid-as s a f src e g h p = rw (sym g, sym e, h) p
 

@@ -6,92 +6,23 @@ use codec::Written;
 use primitives::ReadU8;
 use primitives::ReadU16;
 use primitives::ReadU32;
-use uuid::Answer;
+use replay_rooms::Asked;
+use uuid::Checked;
 use uuid::Form;
 use uuid::Raw;
 use uuid::Uuid;
 ghost use mathlib.Core.Path.{_≡_};
-ghost use mathlib.Core.List.{[], _∷_};
 ghost use lib.ListN.{length};
-ghost use Rattle.codec.specs.Ascii.{ascii};
-ghost use Rattle.console.specs.Console.{behind, holding};
-ghost use Rattle.lines.specs.Words.{wordOf};
-ghost use Rattle.primitives.specs.Numbers.{numberAt};
-ghost use Rattle.print.specs.Print.{hexText, decimalText};
-ghost use Rattle.uuid.specs.Uuids.{shortOf, sliced, uuidOf};
-ghost use Rattle.replay_values.specs.Values.{said, byteTexts, wordTexts, doubleTexts, decodedTexts};
-ghost use Rattle.replay_values.specs.Values.{bitsOf, shortSaid, uuidTexts, uuidSaid, sameText};
-
-// One room of a text, over bytes v: refused with nothing written, or written whole.
-fn refused_in(code: u8, out: &mut [u8], v: u8) -> bool {
-    let w = att_text::write_text(code, out);
-    replay_base::untouched(w, 1, out, v)
-}
-
-fn written_in(code: u8, full: &[u8], out: &mut [u8], v: u8) -> bool {
-    let w = att_text::write_text(code, out);
-    replay_base::written(w, full, out, v)
-}
-
-fn refuses(code: u8, room: usize, v: u8) -> bool {
-    let mut out = [v; 256];
-    if 256 < room {
-        return false;
-    }
-    refused_in(code, &mut out[0..room], v)
-}
-
-fn writes(code: u8, full: &[u8], room: usize, v: u8) -> bool {
-    let mut out = [v; 256];
-    if 256 < room {
-        return false;
-    }
-    written_in(code, full, &mut out[0..room], v)
-}
-
-// How many rooms from 0 on refuse, and how many from there on are written, each over two fills.
-fn refusing(code: u8, most: usize) -> usize {
-    let mut room = 0;
-    while room < most {
-        if !refuses(code, room, 0xAA) {
-            return room;
-        }
-        if !refuses(code, room, 0x55) {
-            return room;
-        }
-        room += 1;
-    }
-    room
-}
-
-fn writing(code: u8, full: &[u8], from: usize, most: usize) -> usize {
-    let mut n = 0;
-    let mut room = from;
-    while room < most {
-        if !writes(code, full, room, 0xAA) {
-            return n;
-        }
-        if !writes(code, full, room, 0x55) {
-            return n;
-        }
-        n += 1;
-        room += 1;
-    }
-    n
-}
+ghost use Rattle.text_put.specs.Put.{behind, holding};
+ghost use Rattle.uuid.specs.Uuids.{shortOf};
+ghost use Rattle.replay_values.specs.Values.{byteTexts, wordTexts, doubleTexts, decodedLine};
+ghost use Rattle.replay_values.specs.Values.{bitsOf, rawSaid, shortSaid, uuidTexts, uuidLine, sameLine};
 
 fn text_reply(code: u8, full: &[u8], out: &mut [u8]) -> usize {
-    let n = full.len();
-    if 252 < n {
-        return print::text(out, 0, b"too long");
-    }
-    let most = n + 4;
-    let r = refusing(code, most);
-    let a = writing(code, full, r, most);
-    let at = print::decimal(out, 0, n as u64);
-    let at = replay_base::rooms(out, at, r, a);
-    let at = print::text(out, at, b" ");
-    print::text(out, at, full)
+    let at = text_print::decimal(out, 0, full.len() as u64);
+    let at = replay_rooms::tried(Asked::Text(code), uuid::no_uuid(), b"", full, out, at, b" ");
+    let at = text_print::text(out, at, b" ");
+    text_print::text(out, at, full)
 }
 
 pub fn text(line: &[u8], out: &mut [u8]) -> usize
@@ -99,10 +30,10 @@ pub fn text(line: &[u8], out: &mut [u8]) -> usize
     ensures { λ _. ⌜ length (now (out .exit)) ≡ length (now (out .entry)) ⌝ }
 {
     let mut spelt = [0u8; 256];
-    let b = replay_base::little(lines::word(line, 2));
+    let b = replay_base::little(text_lines::word(line, 2));
     let code = b[0];
     match att_text::write_text(code, &mut spelt) {
-        Written::Done(n) => text_reply(code, console::first(&spelt, n), out),
+        Written::Done(n) => text_reply(code, text_put::first(&spelt, n), out),
         Written::Refused(e) => replay_base::refused(out, 0, b"", e),
     }
 }
@@ -112,7 +43,7 @@ fn byte_reply(src: &[u8], out: &mut [u8]) -> usize
     ensures { λ _. ⌜ now (out .exit) ≡ holding (byteTexts (now (src .entry))) 0 (now (out .entry)) ⌝ }
 {
     match primitives::read_u8(src) {
-        ReadU8::Value(v) => print::hex2(out, 0, v),
+        ReadU8::Value(v) => text_print::hex2(out, 0, v),
         ReadU8::Refused(e) => replay_base::refused(out, 0, b"", e),
     }
 }
@@ -122,7 +53,7 @@ fn word_reply(src: &[u8], out: &mut [u8]) -> usize
     ensures { λ _. ⌜ now (out .exit) ≡ holding (wordTexts (now (src .entry))) 0 (now (out .entry)) ⌝ }
 {
     match primitives::read_u16(src) {
-        ReadU16::Value(v) => print::hex4(out, 0, v),
+        ReadU16::Value(v) => text_print::hex4(out, 0, v),
         ReadU16::Refused(e) => replay_base::refused(out, 0, b"", e),
     }
 }
@@ -139,13 +70,13 @@ fn double_reply(src: &[u8], out: &mut [u8]) -> usize
 
 // D LETTER HEX
 pub fn decoded(line: &[u8], out: &mut [u8]) -> usize
-    ensures { λ r. ⌜ r ≡ behind (decodedTexts (numberAt 1 0 (wordOf 2 (now (line .entry)))) (said 64 (wordOf 3 (now (line .entry))))) 0 (now (out .entry)) ⌝ }
-    ensures { λ _. ⌜ now (out .exit) ≡ holding (decodedTexts (numberAt 1 0 (wordOf 2 (now (line .entry)))) (said 64 (wordOf 3 (now (line .entry))))) 0 (now (out .entry)) ⌝ }
+    ensures { λ r. ⌜ r ≡ behind (decodedLine (now (line .entry))) 0 (now (out .entry)) ⌝ }
+    ensures { λ _. ⌜ now (out .exit) ≡ holding (decodedLine (now (line .entry))) 0 (now (out .entry)) ⌝ }
 {
     let mut buf = [0u8; 64];
-    let n = replay_base::bytes(lines::word(line, 3), &mut buf);
-    let src = console::first(&buf, n);
-    match replay_base::letter(lines::word(line, 2)) {
+    let n = replay_base::bytes(text_lines::word(line, 3), &mut buf);
+    let src = text_put::first(&buf, n);
+    match replay_base::letter(text_lines::word(line, 2)) {
         b'b' => byte_reply(src, out),
         b'w' => word_reply(src, out),
         _ => double_reply(src, out),
@@ -162,7 +93,7 @@ fn encode(letter: u8, b: [u8; 4], dest: &mut [u8]) -> Written {
 
 fn answer(w: Written, out: &mut [u8]) -> usize {
     match w {
-        Written::Done(_) => print::text(out, 0, b"ok"),
+        Written::Done(_) => text_print::text(out, 0, b"ok"),
         Written::Refused(e) => replay_base::refused(out, 0, b"", e),
     }
 }
@@ -170,7 +101,7 @@ fn answer(w: Written, out: &mut [u8]) -> usize {
 fn encoded_in(letter: u8, b: [u8; 4], dest: &mut [u8], out: &mut [u8]) -> usize {
     let w = encode(letter, b, dest);
     let at = answer(w, out);
-    console::hex(out, at, b" ", dest)
+    text_put::hex(out, at, b" ", dest)
 }
 
 // E LETTER-NUMBER HEX
@@ -179,8 +110,8 @@ pub fn encoded(line: &[u8], out: &mut [u8]) -> usize
     ensures { λ _. ⌜ length (now (out .exit)) ≡ length (now (out .entry)) ⌝ }
 {
     let mut buf = [0u8; 64];
-    let n = replay_base::bytes(lines::word(line, 3), &mut buf);
-    let word = lines::word(line, 2);
+    let n = replay_base::bytes(text_lines::word(line, 3), &mut buf);
+    let word = text_lines::word(line, 2);
     let b = replay_base::little(replay_base::tail(word));
     if 64 < n {
         return 0;
@@ -190,20 +121,20 @@ pub fn encoded(line: &[u8], out: &mut [u8]) -> usize
 
 // All sixteen bytes, and how many of them count.
 fn raw(out: &mut [u8], pos: usize, r: Raw) -> usize
-    ensures { λ n. ⌜ n ≡ behind (ascii " " ∷ hexText (r .bytes) ∷ ascii "/" ∷ decimalText (r .len) ∷ []) pos (now (out .entry)) ⌝ }
-    ensures { λ _. ⌜ now (out .exit) ≡ holding (ascii " " ∷ hexText (r .bytes) ∷ ascii "/" ∷ decimalText (r .len) ∷ []) pos (now (out .entry)) ⌝ }
+    ensures { λ n. ⌜ n ≡ behind (rawSaid r) pos (now (out .entry)) ⌝ }
+    ensures { λ _. ⌜ now (out .exit) ≡ holding (rawSaid r) pos (now (out .entry)) ⌝ }
 {
     let all = r.bytes;
-    let at = console::hex(out, pos, b" ", &all);
-    console::count(out, at, b"/", r.len as u64)
+    let at = text_put::hex(out, pos, b" ", &all);
+    text_put::count(out, at, b"/", r.len as u64)
 }
 
 fn short(out: &mut [u8], pos: usize, u: Uuid) -> usize
     ensures { λ r. ⌜ r ≡ behind (shortSaid (shortOf u)) pos (now (out .entry)) ⌝ }
     ensures { λ _. ⌜ now (out .exit) ≡ holding (shortSaid (shortOf u)) pos (now (out .entry)) ⌝ }
 {
-    match uuid::as_short(u) {
-        ReadU16::Value(v) => console::word(out, pos, b" ", v),
+    match u.as_short() {
+        ReadU16::Value(v) => text_put::word(out, pos, b" ", v),
         ReadU16::Refused(e) => replay_base::refused(out, pos, b" ", e),
     }
 }
@@ -223,44 +154,44 @@ fn uuid_reply(u: Uuid, out: &mut [u8]) -> usize
     ensures { λ _. ⌜ now (out .exit) ≡ holding (uuidTexts u) 0 (now (out .entry)) ⌝ }
 {
     let form = u.form;
-    let at = print::decimal(out, 0, bits(form));
-    let at = console::count(out, at, b" ", uuid::get_att_type(form) as u64);
-    let at = raw(out, at, uuid::att_bytes(u));
-    let at = raw(out, at, uuid::as_raw(u));
+    let at = text_print::decimal(out, 0, bits(form));
+    let at = text_put::count(out, at, b" ", u.get_att_type() as u64);
+    let at = raw(out, at, u.att_bytes());
+    let at = raw(out, at, u.as_raw());
     short(out, at, u)
 }
 
 // U HEX
 pub fn uuid(line: &[u8], out: &mut [u8]) -> usize
-    ensures { λ r. ⌜ r ≡ behind (uuidSaid (sliced (said 64 (wordOf 2 (now (line .entry)))) .answer) (sliced (said 64 (wordOf 2 (now (line .entry)))) .uuid)) 0 (now (out .entry)) ⌝ }
-    ensures { λ _. ⌜ now (out .exit) ≡ holding (uuidSaid (sliced (said 64 (wordOf 2 (now (line .entry)))) .answer) (sliced (said 64 (wordOf 2 (now (line .entry)))) .uuid)) 0 (now (out .entry)) ⌝ }
+    ensures { λ r. ⌜ r ≡ behind (uuidLine (now (line .entry))) 0 (now (out .entry)) ⌝ }
+    ensures { λ _. ⌜ now (out .exit) ≡ holding (uuidLine (now (line .entry))) 0 (now (out .entry)) ⌝ }
 {
     let mut buf = [0u8; 64];
-    let n = replay_base::bytes(lines::word(line, 2), &mut buf);
-    let s = uuid::from_slice(console::first(&buf, n));
+    let n = replay_base::bytes(text_lines::word(line, 2), &mut buf);
+    let s = uuid::from_slice(text_put::first(&buf, n));
     let a = s.answer;
     let u = s.uuid;
     match a {
-        Answer::Accepted => uuid_reply(u, out),
-        Answer::Refused(e) => replay_base::refused(out, 0, b"", e),
+        Checked::Accepted => uuid_reply(u, out),
+        Checked::Refused(e) => replay_base::refused(out, 0, b"", e),
     }
 }
 
 // V HEX HEX
 pub fn same(line: &[u8], out: &mut [u8]) -> usize
-    ensures { λ r. ⌜ r ≡ behind (sameText (uuidOf (said 64 (wordOf 2 (now (line .entry))))) (uuidOf (said 64 (wordOf 3 (now (line .entry))))) ∷ []) 0 (now (out .entry)) ⌝ }
-    ensures { λ _. ⌜ now (out .exit) ≡ holding (sameText (uuidOf (said 64 (wordOf 2 (now (line .entry))))) (uuidOf (said 64 (wordOf 3 (now (line .entry))))) ∷ []) 0 (now (out .entry)) ⌝ }
+    ensures { λ r. ⌜ r ≡ behind (sameLine (now (line .entry))) 0 (now (out .entry)) ⌝ }
+    ensures { λ _. ⌜ now (out .exit) ≡ holding (sameLine (now (line .entry))) 0 (now (out .entry)) ⌝ }
 {
     let mut buf = [0u8; 64];
-    let n = replay_base::bytes(lines::word(line, 2), &mut buf);
-    let a = uuid::from_slice(console::first(&buf, n));
+    let n = replay_base::bytes(text_lines::word(line, 2), &mut buf);
+    let a = uuid::from_slice(text_put::first(&buf, n));
     let mut other = [0u8; 64];
-    let m = replay_base::bytes(lines::word(line, 3), &mut other);
-    let b = uuid::from_slice(console::first(&other, m));
+    let m = replay_base::bytes(text_lines::word(line, 3), &mut other);
+    let b = uuid::from_slice(text_put::first(&other, m));
     let x = a.uuid;
     let y = b.uuid;
-    if uuid::eq(x, y) {
-        return print::text(out, 0, b"equal");
+    if x.eq(y) {
+        return text_print::text(out, 0, b"equal");
     }
-    print::text(out, 0, b"different")
+    text_print::text(out, 0, b"different")
 }

@@ -1,3 +1,2 @@
-pub mod Dispatch
-pub mod DispatchLaws
-pub mod ServeLaws
+pub mod Change
+pub mod ChangeLaws

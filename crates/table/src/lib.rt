@@ -5,25 +5,20 @@
 // is touched.
 use attributes::Addition;
 use attributes::Changed;
-use attributes::Found;
 use attributes::Outcome;
 use attributes::Place;
 use attributes::Record;
 use attributes::Room;
+use attributes::Sought;
 use attributes::Table;
 use codec::Refusal;
-use uuid::Form;
-use uuid::Uuid;
 ghost use mathlib.Core.Path.{_≡_};
 ghost use Prim.Native.Nat.{_<_};
 ghost use lib.ListN.{length};
-ghost use Rattle.codec.specs.Buffer.{laidAt};
-ghost use Rattle.attributes.specs.Records.{lengthened};
 ghost use Rattle.attributes.specs.Soundness.{soundTable};
 ghost use Rattle.attributes.specs.Ledger.{lookupRefusal, lookedUp};
 ghost use Rattle.attributes.specs.Additions.{emptyTable, newTable, freshPlace, fresh, appended, added};
 ghost use Rattle.attributes.specs.Stores.{stored, storedLive};
-ghost use Rattle.table.specs.Steps.{refusing, withRecord, storedAs, storedAsLive};
 
 // A table with no record, for areas of these lengths. A live area over 32,768 bytes is refused, with an
 // empty table for no bytes beside it.
@@ -31,7 +26,7 @@ pub fn new(fixed: &[u8], live: &[u8]) -> Changed
     ensures { λ r. ⌜ r ≡ newTable (length (now (fixed .entry))) (length (now (live .entry))) ⌝ }
 {
     if 32768 < live.len() {
-        return refuse(empty(0, 0), Refusal::BadTable);
+        return table_rules::refuse(empty(0, 0), Refusal::BadTable);
     }
     Changed {
         outcome: Outcome::Accepted,
@@ -52,8 +47,7 @@ pub fn sound(t: Table, fixed: &[u8], live: &[u8]) -> bool
 pub fn sound_for(t: Table, fixed_len: usize, live_len: usize) -> bool
     ensures { λ r. ⌜ r ≡ soundTable t «fixed_len» «live_len» ⌝ }
 {
-    let walked = rules::walk(t, fixed_len, live_len);
-    walked.sound
+    table_rules::sound_for(t, fixed_len, live_len)
 }
 
 // An attribute more. The first of the tests 11, 3, 4, 5, 6 and 7 that fails is the refusal.
@@ -62,26 +56,26 @@ pub fn add(t: Table, a: Addition, fixed: &[u8], live: &[u8]) -> Changed
 {
     let fixed_len = fixed.len();
     let live_len = live.len();
-    let w = rules::walk(t, fixed_len, live_len);
+    let w = table_rules::walk(t, fixed_len, live_len);
     if !w.sound {
-        return refuse(t, Refusal::BadTable);
+        return table_rules::refuse(t, Refusal::BadTable);
     }
     if 64 <= t.count {
-        return refuse(t, Refusal::TableFull);
+        return table_rules::refuse(t, Refusal::TableFull);
     }
     if a.handle <= w.last {
-        return refuse(t, Refusal::BadHandle);
+        return table_rules::refuse(t, Refusal::BadHandle);
     }
     let kind = a.kind;
     let room = a.room;
-    if !rules::type_ok(kind) {
-        return refuse(t, Refusal::BadType);
+    if !table_rules::type_ok(kind) {
+        return table_rules::refuse(t, Refusal::BadType);
     }
-    if !rules::value_ok(fixed_len, a.writable, room) {
-        return refuse(t, Refusal::BadValue);
+    if !table_rules::value_ok(fixed_len, a.writable, room) {
+        return table_rules::refuse(t, Refusal::BadValue);
     }
-    if !rules::space_ok(live_len, w.used, room) {
-        return refuse(t, Refusal::NoRoom);
+    if !table_rules::space_ok(live_len, w.used, room) {
+        return table_rules::refuse(t, Refusal::NoRoom);
     }
     let r = record_for(a, w.used);
     Changed {
@@ -96,9 +90,9 @@ pub fn lookup<'a>(t: Table, handle: u16, fixed: &'a [u8], live: &'a [u8]) -> &'a
     ensures { λ r. ⌜ now r ≡ lookedUp t handle (now (fixed .entry)) (now (live .entry)) ⌝ }
 {
     if !sound_for(t, fixed.len(), live.len()) {
-        return records::part(fixed, 0, 0);
+        return table_records::part(fixed, 0, 0);
     }
-    records::value_at(t, handle, fixed, live)
+    table_records::value_at(t, handle, fixed, live)
 }
 
 pub fn lookup_refusal(t: Table, handle: u16, fixed: &[u8], live: &[u8]) -> Outcome
@@ -107,9 +101,9 @@ pub fn lookup_refusal(t: Table, handle: u16, fixed: &[u8], live: &[u8]) -> Outco
     if !sound_for(t, fixed.len(), live.len()) {
         return Outcome::Refused(Refusal::BadTable);
     }
-    match records::find(t, handle) {
-        Found::Missing => Outcome::Refused(Refusal::UnknownHandle),
-        Found::At(_) => Outcome::Accepted,
+    match table_records::find(t, handle) {
+        Sought::Missing => Outcome::Refused(Refusal::UnknownHandle),
+        Sought::At(_) => Outcome::Accepted,
     }
 }
 
@@ -119,36 +113,16 @@ pub fn store(t: Table, handle: u16, value: &[u8], fixed: &[u8], live: &mut [u8])
     ensures { λ r. ⌜ r ≡ stored t handle (now (value .entry)) (now (fixed .entry)) (now (live .entry)) ⌝ }
     ensures { λ _. ⌜ now (live .exit) ≡ storedLive t handle (now (value .entry)) (now (fixed .entry)) (now (live .entry)) ⌝ }
 {
-    if !sound_for(t, fixed.len(), live.len()) {
-        return refuse(t, Refusal::BadTable);
-    }
-    match records::find(t, handle) {
-        Found::Missing => refuse(t, Refusal::UnknownHandle),
-        Found::At(i) => {
-            let r = t.records[i];
-            store_record(t, i, r, value, live)
-        }
-    }
-}
-
-fn refuse(t: Table, why: Refusal) -> Changed
-    ensures { λ r. ⌜ r ≡ refusing t why ⌝ }
-{
-    Changed {
-        outcome: Outcome::Refused(why),
-        table: t,
-    }
+    table_store::store(t, handle, value, fixed, live)
 }
 
 fn empty(fixed_len: usize, live_len: usize) -> Table
     ensures { λ r. ⌜ r ≡ emptyTable «fixed_len» «live_len» ⌝ }
 {
+    let kind = uuid::no_uuid();
     let r = Record {
         handle: 0,
-        kind: Uuid {
-            form: Form::Uuid16,
-            bytes: [0; 16],
-        },
+        kind,
         readable: false,
         writable: false,
         read_encrypted: false,
@@ -202,79 +176,5 @@ fn append(t: Table, r: Record) -> Table
     let mut next = t;
     next.records[n] = r;
     next.count = n + 1;
-    next
-}
-
-// A value into the slot of the record `r`, which has the number `i`.
-fn store_record(t: Table, i: usize, r: Record, value: &[u8], live: &mut [u8]) -> Changed
-    requires { ⌜ i < 64 ⌝ }
-    ensures { λ q. ⌜ q ≡ storedAs t i r (now (value .entry)) ⌝ }
-    ensures { λ _. ⌜ now (live .exit) ≡ storedAsLive r (now (value .entry)) (now (live .entry)) ⌝ }
-{
-    let n = value.len();
-    let place = r.place;
-    match place {
-        Place::Fixed { at: _, len: _ } => refuse(t, Refusal::NotStorable),
-        Place::Live {
-            at,
-            capacity,
-            len: _,
-        } => {
-            if capacity < n {
-                return refuse(t, Refusal::TooLong);
-            }
-            lay(at, value, live);
-            let q = with_len(r, n);
-            Changed {
-                outcome: Outcome::Accepted,
-                table: with_record(t, i, q),
-            }
-        }
-    }
-}
-
-// Bytes from a place on; where there is no room for them, nothing changes.
-fn lay(at: usize, value: &[u8], live: &mut [u8])
-    ensures { λ _. ⌜ now (live .exit) ≡ laidAt at (now (value .entry)) (now (live .entry)) ⌝ }
-{
-    if live.len() < at {
-        return;
-    }
-    codec::write_bytes(value, &mut live[at..]);
-}
-
-fn with_len(r: Record, n: usize) -> Record
-    ensures { λ q. ⌜ q ≡ lengthened r n ⌝ }
-{
-    let kind = r.kind;
-    let place = r.place;
-    match place {
-        Place::Fixed { at: _, len: _ } => r,
-        Place::Live {
-            at,
-            capacity,
-            len: _,
-        } => Record {
-            handle: r.handle,
-            kind,
-            readable: r.readable,
-            writable: r.writable,
-            read_encrypted: r.read_encrypted,
-            write_encrypted: r.write_encrypted,
-            place: Place::Live {
-                at,
-                capacity,
-                len: n,
-            },
-        },
-    }
-}
-
-fn with_record(t: Table, i: usize, r: Record) -> Table
-    requires { ⌜ i < 64 ⌝ }
-    ensures { λ q. ⌜ q ≡ withRecord t i r ⌝ }
-{
-    let mut next = t;
-    next.records[i] = r;
     next
 }

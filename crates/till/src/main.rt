@@ -6,8 +6,8 @@ use answers::Served;
 use attributes::Outcome;
 use attributes::Table;
 use codec::Refusal;
-use console::Input;
-use lines::Seen;
+use text_console::Input;
+use text_lines::Seen;
 use till_read::Command;
 use till_read::Fault;
 use till_read::Order;
@@ -25,27 +25,27 @@ struct Took {
 // A line of one word.
 fn say(word: &[u8]) {
     let mut out = [0u8; 16];
-    let at = print::text(&mut out, 0, word);
-    console::write_line(&mut out, at);
+    let at = text_print::text(&mut out, 0, word);
+    text_console::write_line(&mut out, at);
 }
 
 // A line of a word and bytes.
 fn tell(word: &[u8], bytes: &[u8]) {
     let mut out = [0u8; 2080];
-    let at = console::hex(&mut out, 0, word, bytes);
-    console::write_line(&mut out, at);
+    let at = text_put::hex(&mut out, 0, word, bytes);
+    text_console::write_line(&mut out, at);
 }
 
 fn refuse(r: Refusal) {
     let mut out = [0u8; 64];
-    let at = console::refused(r, &mut out, 0);
-    console::write_line(&mut out, at);
+    let at = text_put::refused(r, &mut out, 0);
+    text_console::write_line(&mut out, at);
 }
 
 fn complain(till: Till, fault: Fault, number: u64) -> Till {
     let mut out = [0u8; 64];
     let at = till_show::fault_line(fault, number, &mut out);
-    console::write_line(&mut out, at);
+    text_console::write_line(&mut out, at);
     till
 }
 
@@ -77,7 +77,7 @@ fn lookup<'a>(till: Till, handle: u16, fixed: &'a [u8], live: &'a [u8]) -> Till 
 fn show_link(link: Link) {
     let mut out = [0u8; 64];
     let at = till_show::link_line(link, &mut out);
-    console::write_line(&mut out, at);
+    text_console::write_line(&mut out, at);
 }
 
 // The record with the number i, with its value as the till's own lookup has it.
@@ -89,7 +89,7 @@ fn show_record<'a>(table: Table, i: usize, fixed: &'a [u8], live: &'a [u8]) {
     let r = table.records[i];
     let value = table::lookup(table, r.handle, fixed, live);
     let at = till_show::record_line(r, value, &mut out);
-    console::write_line(&mut out, at);
+    text_console::write_line(&mut out, at);
 }
 
 fn show_records<'a>(table: Table, fixed: &'a [u8], live: &'a [u8]) {
@@ -103,8 +103,8 @@ fn show_records<'a>(table: Table, fixed: &'a [u8], live: &'a [u8]) {
 // All live bytes: up to 40,000 of them, two digits each.
 fn show_live(live: &[u8]) {
     let mut out = [0u8; 80016];
-    let at = console::hex(&mut out, 0, b"live ", live);
-    console::write_line(&mut out, at);
+    let at = text_put::hex(&mut out, 0, b"live ", live);
+    text_console::write_line(&mut out, at);
 }
 
 // The state, with the bytes of the areas that are in use.
@@ -154,7 +154,7 @@ fn send(till: Till, packet: &[u8], fixed: &[u8], live: &mut [u8]) -> Till {
     let table = served.table;
     let link = served.link;
     match answer {
-        Answer::Sent(n) => tell(b"answer ", console::first(&out, n)),
+        Answer::Sent(n) => tell(b"answer ", text_put::first(&out, n)),
         Answer::Silent => say(b"silent"),
         Answer::Refused(r) => refuse(r),
     }
@@ -174,8 +174,8 @@ fn obey(
 ) -> Till {
     let command = order.command;
     let addition = order.addition;
-    let f = console::first(fixed, till.fixed);
-    let l = console::first(live, till.live);
+    let f = text_put::first(fixed, till.fixed);
+    let l = text_put::first(live, till.live);
     match command {
         Command::Fixed => ok(till_state::set_fixed(till, bytes, fixed)),
         Command::Live { len } => ok(till_state::set_live(till, len, live)),
@@ -204,7 +204,7 @@ fn answer_line(till: Till, number: u64, line: &[u8], fixed: &mut [u8], live: &mu
         till,
         order,
         number,
-        console::first(&bytes, len),
+        text_put::first(&bytes, len),
         fixed,
         live,
     )
@@ -220,9 +220,9 @@ fn answer_seen(
 ) -> Till {
     match seen {
         Seen::More => till,
-        Seen::Line(n) => answer_line(till, number, console::first(line, n), fixed, live),
+        Seen::Line(n) => answer_line(till, number, text_put::first(line, n), fixed, live),
         Seen::TooLong => {
-            console::complain(number, b"too long");
+            text_console::complain(number, b"too long");
             till
         }
         Seen::Passed => till,
@@ -238,7 +238,7 @@ fn turn(
     fixed: &mut [u8],
     live: &mut [u8],
 ) -> Took {
-    let came = console::next(input, buf, line);
+    let came = text_console::next(input, buf, line);
     let input = came.input;
     let seen = came.seen;
     let next = answer_seen(till, seen, came.number, line, fixed, live);
@@ -252,7 +252,7 @@ fn turn(
 // A proved loop has to end, so it counts its turns down from a number that no run uses up.
 fn run(buf: &mut [u8], line: &mut [u8], fixed: &mut [u8], live: &mut [u8]) {
     let mut till = till_state::start();
-    let mut input = console::start();
+    let mut input = text_console::start();
     let mut turns = u64::MAX;
     while turns > 0 {
         let t = turn(till, input, buf, line, fixed, live);

@@ -9,17 +9,17 @@ use Rattle.attributes.specs.declared.Room.{Room}
 use Rattle.attributes.specs.declared.Room.the-variants as room
 use Rattle.codec.specs.Ascii.{ascii}
 use Rattle.codec.specs.Cases.{pick, same}
-use Rattle.hex.specs.Hex.{hexMeans, answered, filled, decimalOf, handleOf, typeOf}
-use Rattle.hex.specs.declared.Handle.{Handle}
-use Rattle.hex.specs.declared.Handle.the-variants.{At, NotHandle}
-use Rattle.hex.specs.declared.Hex.{Hex}
-use Rattle.hex.specs.declared.Hex.the-variants as hex
-use Rattle.hex.specs.declared.Number.{Number}
-use Rattle.hex.specs.declared.Number.the-variants.{Is, NotNumber}
-use Rattle.lines.specs.Words.{wordOf, member, marksOf}
+use Rattle.text_hex.specs.Hex.{hexMeans, answered, filled, decimalOf, handleOf, typeOf}
+use Rattle.text_hex.specs.declared.Handle.{Handle}
+use Rattle.text_hex.specs.declared.Handle.the-variants.{At, NotHandle}
+use Rattle.text_hex.specs.declared.Hex.{Hex}
+use Rattle.text_hex.specs.declared.Hex.the-variants as hex
+use Rattle.text_hex.specs.declared.Number.{Number}
+use Rattle.text_hex.specs.declared.Number.the-variants.{Is, NotNumber}
+use Rattle.text_lines.specs.Words.{wordOf, member, marksOf}
 use Rattle.uuid.specs.Uuids.{noUuid}
-use Rattle.uuid.specs.declared.Answer.{Answer}
-use Rattle.uuid.specs.declared.Answer.the-variants.{Accepted, Refused}
+use Rattle.uuid.specs.declared.Checked.{Checked}
+use Rattle.uuid.specs.declared.Checked.the-variants.{Accepted, Refused}
 use Rattle.uuid.specs.declared.Uuid.{Uuid}
 use Rattle.till_read.specs.declared.Asked.{Asked}
 use Rattle.till_read.specs.declared.Asked.the-variants as asked
@@ -149,7 +149,7 @@ abbrev pub handleNumber : Handle → ℕ
 handleNumber NotHandle = 0
 handleNumber (At n) = n
 
-abbrev pub ifType : Answer → Command → Command
+abbrev pub ifType : Checked → Command → Command
 ifType Accepted c = c
 ifType (Refused e) c = command.Wrong fault.NotType
 

@@ -2,7 +2,7 @@
 use Prim.Native.Nat.{ℕ}
 use mathlib.Core.Path.{_≡_, sym}
 use mathlib.Core.List.{List}
-use Rattle.lines.specs.Words.{wordOf}
+use Rattle.text_lines.specs.Words.{wordOf}
 use Rattle.till_read.specs.Commands.{nameOf, lastOf, behindOf, arityOf, knownOf, shapeOf, plainOf, wordsOf, wordsBytes, readOf, readBytes}
 use Rattle.till_read.specs.declared.Command.the-variants as command
 use Rattle.till_read.specs.declared.Fault.{Fault}

@@ -3,21 +3,21 @@
 // the words from left to right.
 use attributes::Addition;
 use attributes::Room;
-use hex::Handle;
-use hex::Hex;
-use hex::Number;
-use uuid::Answer;
-use uuid::Form;
+use text_hex::Handle;
+use text_hex::Hex;
+use text_hex::Number;
+use uuid::Checked;
 use uuid::Uuid;
 ghost use mathlib.Core.Path.{_≡_};
 ghost use mathlib.Core.Bool.{Bool};
 ghost use lib.ListN.{length};
 ghost use Rattle.codec.specs.Cases.{pick, same};
-ghost use Rattle.hex.specs.Hex.{hexMeans, answered, filled, decimalOf, handleOf};
-ghost use Rattle.lines.specs.Words.{wordOf};
+ghost use Rattle.text_hex.specs.Hex.{hexMeans, answered, filled, decimalOf, handleOf};
+ghost use Rattle.text_lines.specs.Words.{wordOf};
 ghost use Rattle.till_read.specs.Commands.{lastOf, behindOf, counted, arityOf, knownOf, noAddition, plainOf, hexCommand, hexLen, hexOrder};
 ghost use Rattle.till_read.specs.Commands.{liveCommand, outputCommand, mtuCommand, ifNumber, ifHandle, handleNumber, ifType, ifMarks};
-ghost use Rattle.till_read.specs.Commands.{linkOrder, lookupOrder, storeOrder, fixedRoom, liveRoom, ifShape, ifRoom, spaceOf, roomOf, addition, addOrder};
+ghost use Rattle.till_read.specs.Commands.{linkOrder, lookupOrder, storeOrder, fixedRoom, liveRoom, ifShape};
+ghost use Rattle.till_read.specs.Commands.{ifRoom, spaceOf, roomOf, addition, addOrder};
 ghost use Rattle.till_read.specs.Commands.{wordsOf, wordsBytes, readOf, readBytes};
 ghost use Rattle.till_read.specs.Commands.{nameOf, linkName, tableName};
 
@@ -189,8 +189,8 @@ fn counted_words(last: usize, behind: usize) -> Shape
 fn arity(line: &[u8], last: usize, behind: usize) -> Shape
     ensures { λ r. ⌜ r ≡ arityOf (now (line .entry)) last behind ⌝ }
 {
-    let a = lines::word(line, last).len();
-    let b = lines::word(line, behind).len();
+    let a = text_lines::word(line, last).len();
+    let b = text_lines::word(line, behind).len();
     counted_words(a, b)
 }
 
@@ -215,12 +215,10 @@ fn known(name: Name, shape: Shape) -> Shape
 fn no_addition() -> Addition
     ensures { λ r. ⌜ r ≡ noAddition ⌝ }
 {
+    let kind = uuid::no_uuid();
     Addition {
         handle: 0,
-        kind: Uuid {
-            form: Form::Uuid16,
-            bytes: [0; 16],
-        },
+        kind,
         readable: false,
         writable: false,
         read_encrypted: false,
@@ -271,7 +269,7 @@ fn with_bytes(command: Command, line: &[u8], k: usize, limit: usize, bytes: &mut
     ensures { λ r. ⌜ r ≡ hexOrder command limit (answered (hexMeans (wordOf k (now (line .entry)))) (length (now (bytes .entry)))) ⌝ }
     ensures { λ _. ⌜ now (bytes .exit) ≡ filled (hexMeans (wordOf k (now (line .entry)))) (now (bytes .entry)) ⌝ }
 {
-    let h = hex::read_hex(lines::word(line, k), bytes);
+    let h = text_hex::read_hex(text_lines::word(line, k), bytes);
     Order {
         command: hex_command(command, limit, h),
         len: hex_len(h),
@@ -354,12 +352,12 @@ fn handle_number(h: Handle) -> u16
     }
 }
 
-fn if_type(a: Answer, rest: Command) -> Command
+fn if_type(a: Checked, rest: Command) -> Command
     ensures { λ r. ⌜ r ≡ ifType a rest ⌝ }
 {
     match a {
-        Answer::Refused(_) => Command::Wrong(Fault::NotType),
-        Answer::Accepted => rest,
+        Checked::Refused(_) => Command::Wrong(Fault::NotType),
+        Checked::Accepted => rest,
     }
 }
 
@@ -375,16 +373,20 @@ fn if_marks(set: bool, rest: Command) -> Command
 fn link(line: &[u8]) -> Order
     ensures { λ r. ⌜ r ≡ linkOrder (now (line .entry)) ⌝ }
 {
-    let n = hex::read_decimal(lines::word(line, 1));
-    let marks = lines::word(line, 2);
-    let linked = mtu_command(n, lines::has(marks, b'e'), lines::has(marks, b'x'));
-    plain(if_number(n, if_marks(lines::marks(b"ex", marks), linked)))
+    let n = text_hex::read_decimal(text_lines::word(line, 1));
+    let marks = text_lines::word(line, 2);
+    let linked = mtu_command(
+        n,
+        text_lines::has(marks, b'e'),
+        text_lines::has(marks, b'x'),
+    );
+    plain(if_number(n, if_marks(text_lines::marks(b"ex", marks), linked)))
 }
 
 fn lookup(line: &[u8]) -> Order
     ensures { λ r. ⌜ r ≡ lookupOrder (now (line .entry)) ⌝ }
 {
-    let h = hex::read_handle(lines::word(line, 1));
+    let h = text_hex::read_handle(text_lines::word(line, 1));
     let handle = handle_number(h);
     plain(if_handle(h, Command::Lookup { handle }))
 }
@@ -393,8 +395,8 @@ fn store(line: &[u8], bytes: &mut [u8]) -> Order
     ensures { λ r. ⌜ r ≡ storeOrder (now (line .entry)) (length (now (bytes .entry))) ⌝ }
     ensures { λ _. ⌜ now (bytes .exit) ≡ filled (hexMeans (wordOf 2 (now (line .entry)))) (now (bytes .entry)) ⌝ }
 {
-    let h = hex::read_handle(lines::word(line, 1));
-    let value = hex::read_hex(lines::word(line, 2), bytes);
+    let h = text_hex::read_handle(text_lines::word(line, 1));
+    let value = text_hex::read_hex(text_lines::word(line, 2), bytes);
     let handle = handle_number(h);
     let storing = hex_command(Command::Store { handle }, 8192, value);
     Order {
@@ -453,9 +455,9 @@ fn asked_for(set: bool, a: Asked, other: Asked) -> Asked
 fn room(line: &[u8]) -> Asked
     ensures { λ r. ⌜ r ≡ roomOf (now (line .entry)) ⌝ }
 {
-    let area = lines::word(line, 4);
-    let n = hex::read_decimal(lines::word(line, 5));
-    let m = hex::read_decimal(lines::word(line, 6));
+    let area = text_lines::word(line, 4);
+    let n = text_hex::read_decimal(text_lines::word(line, 5));
+    let m = text_hex::read_decimal(text_lines::word(line, 6));
     let fixed = if_shape(arity(line, 6, 7), fixed_room(n, m));
     let live = if_shape(arity(line, 5, 6), live_room(n));
     let other = asked_for(is(area, b"live"), live, Asked::Wrong(Fault::UnknownCommand));
@@ -486,10 +488,10 @@ fn adding(handle: u16, kind: Uuid, marks: &[u8], room: Room) -> Addition
     Addition {
         handle,
         kind,
-        readable: lines::has(marks, b'r'),
-        writable: lines::has(marks, b'w'),
-        read_encrypted: lines::has(marks, b'R'),
-        write_encrypted: lines::has(marks, b'W'),
+        readable: text_lines::has(marks, b'r'),
+        writable: text_lines::has(marks, b'w'),
+        read_encrypted: text_lines::has(marks, b'R'),
+        write_encrypted: text_lines::has(marks, b'W'),
         room,
     }
 }
@@ -497,13 +499,13 @@ fn adding(handle: u16, kind: Uuid, marks: &[u8], room: Room) -> Addition
 fn add(line: &[u8]) -> Order
     ensures { λ r. ⌜ r ≡ addOrder (now (line .entry)) ⌝ }
 {
-    let h = hex::read_handle(lines::word(line, 1));
-    let read = hex::read_type(lines::word(line, 2));
+    let h = text_hex::read_handle(text_lines::word(line, 1));
+    let read = text_hex::read_type(text_lines::word(line, 2));
     let answer = read.answer;
     let kind = read.uuid;
-    let marks = lines::word(line, 3);
+    let marks = text_lines::word(line, 3);
     let asked = room(line);
-    let marked = if_marks(lines::marks(b"rwRW", marks), if_room(asked));
+    let marked = if_marks(text_lines::marks(b"rwRW", marks), if_room(asked));
     Order {
         command: if_handle(h, if_type(answer, marked)),
         len: 0,
@@ -518,13 +520,13 @@ fn words(name: Name, line: &[u8], bytes: &mut [u8]) -> Order
 {
     match name {
         Name::Fixed => with_bytes(Command::Fixed, line, 1, 4096, bytes),
-        Name::Live => plain(live_command(hex::read_decimal(lines::word(line, 1)))),
+        Name::Live => plain(live_command(text_hex::read_decimal(text_lines::word(line, 1)))),
         Name::Table => plain(Command::NewTable),
         Name::Add => add(line),
         Name::Store => store(line, bytes),
         Name::Lookup => lookup(line),
         Name::Link => link(line),
-        Name::Output => plain(output_command(hex::read_decimal(lines::word(line, 1)))),
+        Name::Output => plain(output_command(text_hex::read_decimal(text_lines::word(line, 1)))),
         Name::Send => with_bytes(Command::Send, line, 1, 8192, bytes),
         Name::Show => plain(Command::Show),
         Name::Other => plain(Command::Wrong(Fault::UnknownCommand)),
@@ -536,7 +538,7 @@ pub fn read(line: &[u8], bytes: &mut [u8]) -> Order
     ensures { λ r. ⌜ r ≡ readOf (now (line .entry)) (length (now (bytes .entry))) ⌝ }
     ensures { λ _. ⌜ now (bytes .exit) ≡ readBytes (now (line .entry)) (now (bytes .entry)) ⌝ }
 {
-    let name = name_of(lines::word(line, 0));
+    let name = name_of(text_lines::word(line, 0));
     match known(name, arity(line, last_of(name), behind_of(name))) {
         Shape::Wrong(f) => plain(Command::Wrong(f)),
         Shape::Right => words(name, line, bytes),

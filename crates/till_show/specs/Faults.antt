@@ -3,8 +3,8 @@ use Prim.Native.Nat.{ℕ}
 use mathlib.Core.Path.{_≡_}
 use mathlib.Core.List.{List}
 use Rattle.codec.specs.Ascii.{ascii}
-use Rattle.console.specs.Console.{complaintTexts}
-use Rattle.console.specs.ConsoleLaws.{Wrote}
+use Rattle.text_put.specs.Put.{complaintTexts}
+use Rattle.text_put.specs.PutLaws.{Wrote}
 use Rattle.till_read.specs.declared.Fault.{Fault}
 use Rattle.till_read.specs.declared.Fault.the-variants.{NotHex, UnknownCommand, MissingWord, TooManyWords, NotNumber, NotType, NotMarks, TooLong}
 

@@ -8,7 +8,8 @@ use Rattle.attributes.specs.declared.Place.the-variants.{Fixed, Live}
 use Rattle.attributes.specs.declared.Record.{Record}
 use Rattle.codec.specs.Ascii.{ascii}
 use Rattle.codec.specs.Cases.{pick}
-use Rattle.print.specs.Print.{capitals, decimalText, hexText, typeText}
+use Rattle.text_print.specs.Print.{capitals, hexText, typeText}
+use Rattle.text_decimal.specs.Decimal.{decimalText}
 
 -- MARKS: the letters of the marks that are set, or `-` where none is
 abbrev pub letters : List (Bool × List ℕ) → List (List ℕ)

@@ -3,7 +3,7 @@ use Prim.Native.Nat.{ℕ}
 use mathlib.Core.Path.{_≡_}
 use mathlib.Core.Bool.{Bool, false}
 use mathlib.Core.List.{List, []}
-use Rattle.console.specs.ConsoleLaws.{Wrote}
+use Rattle.text_put.specs.PutLaws.{Wrote}
 use Rattle.attributes.specs.declared.Place.{Place}
 use Rattle.codec.specs.Cases.{pick}
 use Rattle.till_show.specs.Show.{placeTexts}

@@ -8,10 +8,10 @@ ghost use mathlib.Core.Path.{_≡_};
 ghost use mathlib.Core.Bool.{false};
 ghost use mathlib.Core.List.{[], _∷_};
 ghost use Rattle.codec.specs.Cases.{pick};
-ghost use Rattle.console.specs.Console.{behind, holding};
+ghost use Rattle.text_put.specs.Put.{behind, holding};
 ghost use Rattle.till_show.specs.Show.{linkTexts, headTexts, recordMarks, placeTexts, recordTexts};
 ghost use Rattle.till_show.specs.Faults.{faultText};
-ghost use Rattle.console.specs.Console.{complaintTexts};
+ghost use Rattle.text_put.specs.Put.{complaintTexts};
 
 // A mark's letter where the mark is set, and nothing where it is not.
 fn letter(set: bool, name: &[u8]) -> &[u8]
@@ -41,8 +41,8 @@ fn marks(out: &mut [u8], pos: usize, a: bool, first: &[u8], b: bool, second: &[u
     ensures { λ r. ⌜ r ≡ behind (pick a (now (first .entry)) [] ∷ pick b (now (second .entry)) [] ∷ []) pos (now (out .entry)) ⌝ }
     ensures { λ _. ⌜ now (out .exit) ≡ holding (pick a (now (first .entry)) [] ∷ pick b (now (second .entry)) [] ∷ []) pos (now (out .entry)) ⌝ }
 {
-    let at = print::text(out, pos, letter(a, first));
-    print::text(out, at, letter(b, second))
+    let at = text_print::text(out, pos, letter(a, first));
+    text_print::text(out, at, letter(b, second))
 }
 
 // `link mtu=N marks=MARKS`
@@ -50,11 +50,11 @@ pub fn link_line(link: Link, out: &mut [u8]) -> usize
     ensures { λ r. ⌜ r ≡ behind (linkTexts link) 0 (now (out .entry)) ⌝ }
     ensures { λ _. ⌜ now (out .exit) ≡ holding (linkTexts link) 0 (now (out .entry)) ⌝ }
 {
-    let at = console::count(out, 0, b"link mtu=", link.mtu as u64);
-    let at = print::text(out, at, b" marks=");
+    let at = text_put::count(out, 0, b"link mtu=", link.mtu as u64);
+    let at = text_print::text(out, at, b" marks=");
     let at = marks(out, at, link.encrypted, b"e", link.exchanged, b"x");
     let none = neither(link.encrypted, link.exchanged, true);
-    print::text(out, at, letter(none, b"-"))
+    text_print::text(out, at, letter(none, b"-"))
 }
 
 // `record HANDLE TYPE`
@@ -63,8 +63,8 @@ fn head(r: Record, out: &mut [u8]) -> usize
     ensures { λ _. ⌜ now (out .exit) ≡ holding (headTexts r) 0 (now (out .entry)) ⌝ }
 {
     let kind = r.kind;
-    let at = console::word(out, 0, b"record ", r.handle);
-    console::kind(out, at, b" ", kind)
+    let at = text_put::word(out, 0, b"record ", r.handle);
+    text_put::kind(out, at, b" ", kind)
 }
 
 // ` MARKS`
@@ -72,12 +72,12 @@ fn record_marks(r: Record, out: &mut [u8], pos: usize) -> usize
     ensures { λ n. ⌜ n ≡ behind (recordMarks r) pos (now (out .entry)) ⌝ }
     ensures { λ _. ⌜ now (out .exit) ≡ holding (recordMarks r) pos (now (out .entry)) ⌝ }
 {
-    let at = print::text(out, pos, b" ");
+    let at = text_print::text(out, pos, b" ");
     let at = marks(out, at, r.readable, b"r", r.writable, b"w");
     let at = marks(out, at, r.read_encrypted, b"R", r.write_encrypted, b"W");
     let sealed = neither(r.read_encrypted, r.write_encrypted, true);
     let none = neither(r.readable, r.writable, sealed);
-    print::text(out, at, letter(none, b"-"))
+    text_print::text(out, at, letter(none, b"-"))
 }
 
 // ` fixed at=AT` or ` live at=AT capacity=N`
@@ -86,14 +86,14 @@ fn place_text(place: Place, out: &mut [u8], pos: usize) -> usize
     ensures { λ _. ⌜ now (out .exit) ≡ holding (placeTexts place) pos (now (out .entry)) ⌝ }
 {
     match place {
-        Place::Fixed { at, len: _ } => console::count(out, pos, b" fixed at=", at as u64),
+        Place::Fixed { at, len: _ } => text_put::count(out, pos, b" fixed at=", at as u64),
         Place::Live {
             at,
             capacity,
             len: _,
         } => {
-            let next = console::count(out, pos, b" live at=", at as u64);
-            console::count(out, next, b" capacity=", capacity as u64)
+            let next = text_put::count(out, pos, b" live at=", at as u64);
+            text_put::count(out, next, b" capacity=", capacity as u64)
         }
     }
 }
@@ -107,7 +107,7 @@ pub fn record_line(r: Record, value: &[u8], out: &mut [u8]) -> usize
     let at = head(r, out);
     let at = record_marks(r, out, at);
     let at = place_text(place, out, at);
-    console::hex(out, at, b" value=", value)
+    text_put::hex(out, at, b" value=", value)
 }
 
 // `error line K: WHAT`
@@ -116,13 +116,13 @@ pub fn fault_line(fault: Fault, number: u64, out: &mut [u8]) -> usize
     ensures { λ _. ⌜ now (out .exit) ≡ holding (complaintTexts number (faultText fault)) 0 (now (out .entry)) ⌝ }
 {
     match fault {
-        Fault::NotHex => console::complaint(out, 0, number, b"not hexadecimal"),
-        Fault::UnknownCommand => console::complaint(out, 0, number, b"unknown command"),
-        Fault::MissingWord => console::complaint(out, 0, number, b"missing word"),
-        Fault::TooManyWords => console::complaint(out, 0, number, b"too many words"),
-        Fault::NotNumber => console::complaint(out, 0, number, b"not a number"),
-        Fault::NotType => console::complaint(out, 0, number, b"not a type"),
-        Fault::NotMarks => console::complaint(out, 0, number, b"not marks"),
-        Fault::TooLong => console::complaint(out, 0, number, b"too long"),
+        Fault::NotHex => text_put::complaint(out, 0, number, b"not hexadecimal"),
+        Fault::UnknownCommand => text_put::complaint(out, 0, number, b"unknown command"),
+        Fault::MissingWord => text_put::complaint(out, 0, number, b"missing word"),
+        Fault::TooManyWords => text_put::complaint(out, 0, number, b"too many words"),
+        Fault::NotNumber => text_put::complaint(out, 0, number, b"not a number"),
+        Fault::NotType => text_put::complaint(out, 0, number, b"not a type"),
+        Fault::NotMarks => text_put::complaint(out, 0, number, b"not marks"),
+        Fault::TooLong => text_put::complaint(out, 0, number, b"too long"),
     }
 }

@@ -1,10 +1,12 @@
 -- What `till` holds after a command.
 use Prim.Native.Nat.{ℕ, min}
 use mathlib.Core.Bool.{false}
-use mathlib.Core.List.{List}
-use lib.ListN.{length, take}
+use mathlib.Core.List.{List, _++_}
+use lib.ListN.{length, take, drop}
+use Rattle.answers.specs.Serve.{firstLink}
 use Rattle.answers.specs.declared.Link.{Link}
 use Rattle.attributes.specs.Additions.{emptyTable}
+use Rattle.attributes.specs.Stores.{stored, storedLive}
 use Rattle.attributes.specs.declared.Changed.{Changed}
 use Rattle.attributes.specs.declared.Outcome.{Outcome}
 use Rattle.attributes.specs.declared.Outcome.the-variants.{Accepted, Refused}
@@ -16,7 +18,7 @@ use Rattle.till_state.specs.declared.Till.{Till}
 abbrev pub firstTill : Till
 firstTill = record {
   table = emptyTable 0 0;
-  link = record { mtu = 23; exchanged = false; encrypted = false };
+  link = firstLink false;
   fixed = 0;
   live = 0;
   output = 247;
@@ -52,3 +54,10 @@ tabled t c = tabledBy (c .outcome) t (c .table)
 -- the lent bytes that are in use: the first n, or all where there are fewer
 abbrev pub inUse : ℕ → List ℕ → List ℕ
 inUse n live = take (min n (length live)) live
+
+-- the till's own store, into the live bytes that are in use, and what the lent bytes hold afterwards
+abbrev pub storedIn : Till → ℕ → List ℕ → List ℕ → List ℕ → Moved
+storedIn t h v fixed live = moved t (stored (t .table) h v fixed (inUse (t .live) live))
+
+abbrev pub liveAfter : Till → ℕ → List ℕ → List ℕ → List ℕ → List ℕ
+liveAfter t h v fixed live = storedLive (t .table) h v fixed (inUse (t .live) live) ++ drop (min (t .live) (length live)) live

@@ -5,20 +5,22 @@ use mathlib.Core.Bool.{false}
 use mathlib.Core.List.{List, [], _∷_, _++_}
 use native.Mathlib.Omega.{arith}
 use lib.ListN.{length, take, drop}
+use Rattle.answers.specs.Serve.{firstLink}
+use Rattle.answers.specs.declared.Link.{Link}
 use Rattle.attributes.specs.Additions.{newTable}
 use Rattle.attributes.specs.Stores.{stored, storedLive}
 use Rattle.attributes.specs.declared.Changed.{Changed}
 use Rattle.attributes.specs.declared.Outcome.the-variants.{Accepted, Refused}
 use Rattle.codec.specs.Buffer.{laid}
 use Rattle.codec.specs.declared.Refusal.{Refusal}
-use Rattle.till_state.specs.Tills.{firstTill, withTable, moved, tabled, inUse}
+use Rattle.till_state.specs.Tills.{firstTill, withTable, moved, tabled, storedIn, liveAfter}
 use Rattle.till_state.specs.declared.Moved.{Moved}
 use Rattle.till_state.specs.declared.Till.{Till}
 
-pub begun : (c : Changed) (s : List ℕ) → s ≡ [] → c ≡ newTable (length s) (length s)
-    → _≡_ {A = Till} (record { table = c .table; link = record { mtu = 23; exchanged = false; encrypted = false }; fixed = 0; live = 0; output = 247 }) firstTill
+pub begun : (c : Changed) (l : Link) (s : List ℕ) → s ≡ [] → c ≡ newTable (length s) (length s) → l ≡ firstLink false
+    → _≡_ {A = Till} (record { table = c .table; link = l; fixed = 0; live = 0; output = 247 }) firstTill
 unfolding newTable
-begun c s e f = rw (f, e)
+begun c l s e f g = rw (f, e, g)
 
 pub laid-as : (s t l m : List ℕ) → s ≡ t → m ≡ laid s l → m ≡ laid t l
 laid-as s t l m e h = rw e at h
@@ -36,8 +38,8 @@ refused t c d why f h = rw (sym f, h)
 -- the live bytes in use were lent, and came back stored into
 pub in-use : (t u : Till) (c : Changed) (h n : ℕ) (v fixed live ys : List ℕ) → n ≡ min (t .live) (length live) → u ≡ withTable t (c .table)
     → (c ≡ stored (t .table) h v fixed (take (n - 0) (drop 0 live))) × (ys ≡ storedLive (t .table) h v fixed (take (n - 0) (drop 0 live)))
-    → (_≡_ {A = Moved} (record { outcome = c .outcome; till = u }) (moved t (stored (t .table) h v fixed (inUse (t .live) live))))
-    × (take 0 live ++ (ys ++ drop (n - 0) (drop 0 live)) ≡ storedLive (t .table) h v fixed (inUse (t .live) live) ++ drop (min (t .live) (length live)) live)
+    → (_≡_ {A = Moved} (record { outcome = c .outcome; till = u }) (storedIn t h v fixed live))
+    × (take 0 live ++ (ys ++ drop (n - 0) (drop 0 live)) ≡ liveAfter t h v fixed live)
 in-use t u c h n v fixed live ys e f g =
     let z : n - 0 ≡ n = omega arith in
     let k = rw (z, e) at g in

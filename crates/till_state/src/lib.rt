@@ -6,13 +6,11 @@ use attributes::Outcome;
 use attributes::Table;
 ghost use Prim.Native.Nat.{min};
 ghost use mathlib.Core.Path.{_≡_};
-ghost use mathlib.Core.List.{_++_};
-ghost use lib.ListN.{length, take, drop, replicate};
+ghost use lib.ListN.{length, replicate};
 ghost use Rattle.attributes.specs.Additions.{newTable, added};
-ghost use Rattle.attributes.specs.Stores.{stored, storedLive};
 ghost use Rattle.codec.specs.Buffer.{laid};
-ghost use Rattle.console.specs.Console.{firstOf};
-ghost use Rattle.till_state.specs.Tills.{firstTill, withTable, withLink, withFixed, withLive, withOutput, tabled, inUse};
+ghost use Rattle.text_put.specs.Put.{firstOf};
+ghost use Rattle.till_state.specs.Tills.{firstTill, withTable, withLink, withFixed, withLive, withOutput, tabled, storedIn, liveAfter};
 ghost use Rattle.till_state.specs.Tills.{moved as Tills·moved};
 
 pub struct Till {
@@ -34,16 +32,13 @@ pub fn start() -> Till
     ensures { λ r. ⌜ r ≡ firstTill ⌝ }
 {
     let nothing = [0u8; 1];
-    let none = console::first(&nothing, 0);
+    let none = text_put::first(&nothing, 0);
     let changed = table::new(none, none);
     let table = changed.table;
+    let link = serve_link::first_link(false);
     Till {
         table,
-        link: Link {
-            mtu: 23,
-            exchanged: false,
-            encrypted: false,
-        },
+        link,
         fixed: 0,
         live: 0,
         output: 247,
@@ -68,7 +63,7 @@ pub fn set_live(till: Till, len: usize, live: &mut [u8]) -> Till
 {
     let mut next = till;
     let zeros = [0u8; 40000];
-    codec::write_bytes(console::first(&zeros, len), live);
+    codec::write_bytes(text_put::first(&zeros, len), live);
     next.live = len;
     next
 }
@@ -135,8 +130,8 @@ fn least(a: usize, b: usize) -> usize
 
 // The till's own store, into the live bytes that are in use; those behind them stay.
 pub fn store(till: Till, handle: u16, value: &[u8], fixed: &[u8], live: &mut [u8]) -> Moved
-    ensures { λ r. ⌜ r ≡ Tills·moved till (stored (till .table) handle (now (value .entry)) (now (fixed .entry)) (inUse (till .live) (now (live .entry)))) ⌝ }
-    ensures { λ _. ⌜ now (live .exit) ≡ storedLive (till .table) handle (now (value .entry)) (now (fixed .entry)) (inUse (till .live) (now (live .entry))) ++ drop (min (till .live) (length (now (live .entry)))) (now (live .entry)) ⌝ }
+    ensures { λ r. ⌜ r ≡ storedIn till handle (now (value .entry)) (now (fixed .entry)) (now (live .entry)) ⌝ }
+    ensures { λ _. ⌜ now (live .exit) ≡ liveAfter till handle (now (value .entry)) (now (fixed .entry)) (now (live .entry)) ⌝ }
 {
     let table = till.table;
     let n = least(till.live, live.len());

@@ -14,7 +14,7 @@ use Rattle.uuid.specs.declared.Form.{Form}
 use Rattle.uuid.specs.declared.Form.the-variants.{Uuid16, Uuid32, Uuid128}
 use Rattle.uuid.specs.declared.Uuid.{Uuid}
 use Rattle.uuid.specs.declared.Raw.{Raw}
-use Rattle.uuid.specs.declared.Answer.the-variants.{Accepted, Refused}
+use Rattle.uuid.specs.declared.Checked.the-variants.{Accepted, Refused}
 use Rattle.uuid.specs.declared.Sliced.{Sliced}
 
 abbrev pub widthOf : Form → ℕ

@@ -2,15 +2,14 @@
 use Prim.Native.Nat.{ℕ, _≤_, _-_}
 use mathlib.Core.Path.{_≡_, refl, sym, ap, _∙_}
 use mathlib.Core.Bool.{Bool, true, false}
-use mathlib.Core.List.{List, [], _∷_, _++_, append-nil}
+use mathlib.Core.List.{List, [], _∷_, _++_}
 use native.Mathlib.Omega.{arith}
-use lib.ListN.{length, take, drop, length-append, length-drop, length-replicate, drop-of-length-le}
+use lib.ListN.{length, take, drop, length-append, length-drop, length-take, length-replicate}
 use lib.Seq.{length-take-le, take-append-seam, take-at}
 use borrow.Author.Tests.{le-leb}
 use Rattle.codec.specs.Buffer.{laid}
-use Rattle.codec.specs.BufferLaws.{over-length}
-use Rattle.codec.specs.Cases.{lookup, same}
-use Rattle.codec.specs.CasesLaws.{None, missing, same-refl, same-equal, same-is}
+use Rattle.codec.specs.Cases.{lookup, None, same}
+use Rattle.codec.specs.CasesLaws.{missing, same-refl, same-equal, same-is}
 use Rattle.uuid.specs.Uuids.{widthOf, own, onAir, equalTypes, equal, zeros, padded, ofForm, rawOf, long, formed, lengths, noForm, sliced, uuidOf, base, attBytesBy, attBytes}
 use Rattle.uuid.specs.declared.Form.{Form}
 use Rattle.uuid.specs.declared.Form.the-variants.{Uuid16, Uuid32, Uuid128}
@@ -25,22 +24,16 @@ width-most Uuid128 = omega arith
 pub own-length : (u : Uuid) → length (u .bytes) ≡ 16 → length (own u) ≡ widthOf (u .form)
 own-length u e = length-take-le (widthOf (u .form)) (u .bytes) (omega (arith, width-most (u .form)))
 
-pub own-most : (u : Uuid) → length (u .bytes) ≡ 16 → length (own u) ≤ 16
-own-most u e = omega (arith, own-length u e, width-most (u .form))
+pub own-most : (u : Uuid) → length (own u) ≤ 16
+own-most u = rw (length-take (widthOf (u .form)) (u .bytes)) (omega (arith, width-most (u .form)))
 
 -- the part of the form's width, as code lends it
 pub part-own : (u : Uuid) (n : ℕ) → n ≡ widthOf (u .form) → take (n - 0) (u .bytes) ≡ own u
 part-own u n e = let z : n - 0 ≡ widthOf (u .form) = omega arith in ap (λ (k : ℕ). take k (u .bytes)) z
 
 -- sixteen bytes, of which the first are those given
-pub padded-length : (l : List ℕ) → length l ≤ 16 → length (padded l) ≡ 16
-padded-length l h = over-length l zeros h
-
 pub padded-own : (l : List ℕ) → take (length l) (padded l) ≡ l
 padded-own l = take-append-seam l (drop (length l) zeros)
-
-pub padded-whole : (l : List ℕ) → length l ≡ 16 → padded l ≡ l
-padded-whole l e = rw (drop-of-length-le zeros {i = length l} (omega arith), append-nil)
 
 pub laid-padded : (l : List ℕ) → length l ≤ 16 → laid l zeros ≡ padded l
 laid-padded l h = rw (le-leb (length l) 16 h)
@@ -51,9 +44,6 @@ raw-is b l n e f = rw (e, f)
 -- the own bytes of what the constructors make: with `length-bytes` of NumbersLaws.antt this is `short` and `wide` too
 pub own-formed : (f : Form) (l : List ℕ) → length l ≡ widthOf f → own (ofForm f l) ≡ l
 own-formed f l e = take-at l (drop (length l) zeros) (widthOf f) e
-
-pub own-long : (l : List ℕ) → length l ≡ 16 → own (long l) ≡ l
-own-long l e = ap own (ap (λ (b : List ℕ). long b) (sym (padded-whole l e))) ∙ own-formed Uuid128 l e
 
 -- from a slice, at each length that has a form, and at any other
 pub sliced-formed : (f : Form) (l : List ℕ) → length l ≡ widthOf f → sliced l ≡ formed f l

@@ -1,12 +1,15 @@
 // types/uuid.rs: the three forms of a UUID. An enum cannot hold an array, so a UUID is a struct of its
 // form and sixteen bytes; the form's own bytes stand first, and what stands behind them has no meaning.
+//
+// A port of src/types/uuid.rs of trouble-host 0.8.0, which was changed: see NOTICE.
 use codec::Error;
 use primitives::ReadU16;
 ghost use mathlib.Core.Path.{_≡_};
 ghost use Prim.Native.Nat.{_≤_};
 ghost use mathlib.Core.List.{_++_};
 ghost use lib.ListN.{length, take};
-ghost use Rattle.uuid.specs.Uuids.{widthOf, own, onAir, equalTypes, equal, padded, base, attType, attBytes, rawOf, shortOf, formed, short, wide, long, sliced};
+ghost use Rattle.uuid.specs.Uuids.{widthOf, own, onAir, equalTypes, equal, padded, base, attType, attBytes};
+ghost use Rattle.uuid.specs.Uuids.{rawOf, shortOf, formed, short, wide, long, noUuid, sliced};
 
 pub enum Form {
     Uuid16,
@@ -25,14 +28,14 @@ pub struct Raw {
     pub len: usize,
 }
 
-pub enum Answer {
+pub enum Checked {
     Accepted,
     Refused(Error),
 }
 
 // What some bytes are as a UUID. Beside a refusal stands the 16-bit 0000.
 pub struct Sliced {
-    pub answer: Answer,
+    pub answer: Checked,
     pub uuid: Uuid,
 }
 
@@ -56,34 +59,118 @@ const BASE: [u8; 16] = [
     0x00,
 ];
 
-pub fn new_short(val: u16) -> Uuid
-    ensures { λ r. ⌜ r ≡ short val ⌝ }
+impl Uuid {
+    pub fn new_short(val: u16) -> Self
+        ensures { λ r. ⌜ r ≡ short val ⌝ }
+    {
+        let mut bytes = [0u8; 16];
+        primitives::write_u16(val, &mut bytes);
+        Uuid {
+            form: Form::Uuid16,
+            bytes,
+        }
+    }
+
+    pub fn from_u32(val: u32) -> Self
+        ensures { λ r. ⌜ r ≡ wide val ⌝ }
+    {
+        let mut bytes = [0u8; 16];
+        primitives::write_u32(val, &mut bytes);
+        Uuid {
+            form: Form::Uuid32,
+            bytes,
+        }
+    }
+
+    pub fn new_long(val: [u8; 16]) -> Self
+        ensures { λ r. ⌜ r ≡ long val ⌝ }
+    {
+        Uuid {
+            form: Form::Uuid128,
+            bytes: val,
+        }
+    }
+
+    // The format of Find Information Response that this UUID is listed under.
+    pub fn get_att_type(self) -> u8
+        ensures { λ r. ⌜ r ≡ attType (self .form) ⌝ }
+    {
+        let form = self.form;
+        match form {
+            Form::Uuid16 => 1,
+            Form::Uuid32 => 2,
+            Form::Uuid128 => 2,
+        }
+    }
+
+    // The UUID's own bytes.
+    pub fn as_raw(self) -> Raw
+        ensures { λ r. ⌜ r ≡ rawOf (own self) ⌝ }
+    {
+        let form = self.form;
+        let all = self.bytes;
+        let len = width(form);
+        let bytes = pad(&all[0..len]);
+        Raw { bytes, len }
+    }
+
+    // The bytes that a packet carries.
+    pub fn on_air(self) -> Raw
+        ensures { λ r. ⌜ r ≡ rawOf (onAir self) ⌝ }
+    {
+        self.as_raw()
+    }
+
+    // The bytes under the format that `get_att_type` gives.
+    pub fn att_bytes(self) -> Raw
+        ensures { λ r. ⌜ r ≡ rawOf (attBytes self) ⌝ }
+    {
+        let form = self.form;
+        let all = self.bytes;
+        match form {
+            Form::Uuid16 => self.as_raw(),
+            Form::Uuid32 => {
+                let bytes = on_base(all);
+                Raw { bytes, len: 16 }
+            }
+            Form::Uuid128 => self.as_raw(),
+        }
+    }
+
+    // The number of a 16-bit UUID.
+    pub fn as_short(self) -> ReadU16
+        ensures { λ r. ⌜ r ≡ shortOf self ⌝ }
+    {
+        let form = self.form;
+        let all = self.bytes;
+        match form {
+            Form::Uuid16 => ReadU16::Value(primitives::u16_at(&all, 0)),
+            Form::Uuid32 => ReadU16::Refused(Error::InvalidValue),
+            Form::Uuid128 => ReadU16::Refused(Error::InvalidValue),
+        }
+    }
+
+    // Equality: form and the form's own bytes.
+    pub fn eq(self, b: Uuid) -> bool
+        ensures { λ r. ⌜ r ≡ equal self b ⌝ }
+    {
+        let f = self.form;
+        let g = b.form;
+        let x = self.bytes;
+        let y = b.bytes;
+        let n = width(f);
+        let m = width(g);
+        equal_types(&x[0..n], &y[0..m])
+    }
+}
+
+// The 16-bit 0000, which stands where there is no UUID.
+pub fn no_uuid() -> Uuid
+    ensures { λ r. ⌜ r ≡ noUuid ⌝ }
 {
-    let mut bytes = [0u8; 16];
-    primitives::write_u16(val, &mut bytes);
     Uuid {
         form: Form::Uuid16,
-        bytes,
-    }
-}
-
-pub fn from_u32(val: u32) -> Uuid
-    ensures { λ r. ⌜ r ≡ wide val ⌝ }
-{
-    let mut bytes = [0u8; 16];
-    primitives::write_u32(val, &mut bytes);
-    Uuid {
-        form: Form::Uuid32,
-        bytes,
-    }
-}
-
-pub fn new_long(val: [u8; 16]) -> Uuid
-    ensures { λ r. ⌜ r ≡ long val ⌝ }
-{
-    Uuid {
-        form: Form::Uuid128,
-        bytes: val,
+        bytes: [0; 16],
     }
 }
 
@@ -95,11 +182,8 @@ pub fn from_slice(value: &[u8]) -> Sliced
         4 => accepted(Form::Uuid32, value),
         16 => accepted(Form::Uuid128, value),
         _ => Sliced {
-            answer: Answer::Refused(Error::InvalidValue),
-            uuid: Uuid {
-                form: Form::Uuid16,
-                bytes: [0; 16],
-            },
+            answer: Checked::Refused(Error::InvalidValue),
+            uuid: no_uuid(),
         },
     }
 }
@@ -115,81 +199,11 @@ pub fn width(form: Form) -> usize
     }
 }
 
-// The format of Find Information Response that this form is listed under.
-pub fn get_att_type(form: Form) -> u8
-    ensures { λ r. ⌜ r ≡ attType form ⌝ }
-{
-    match form {
-        Form::Uuid16 => 1,
-        Form::Uuid32 => 2,
-        Form::Uuid128 => 2,
-    }
-}
-
-// The UUID's own bytes.
-pub fn as_raw(uuid: Uuid) -> Raw
-    ensures { λ r. ⌜ r ≡ rawOf (own uuid) ⌝ }
-{
-    let form = uuid.form;
-    let all = uuid.bytes;
-    let len = width(form);
-    let bytes = pad(&all[0..len]);
-    Raw { bytes, len }
-}
-
-// The bytes that a packet carries.
-pub fn on_air(uuid: Uuid) -> Raw
-    ensures { λ r. ⌜ r ≡ rawOf (onAir uuid) ⌝ }
-{
-    as_raw(uuid)
-}
-
-// The bytes under the format that `get_att_type` gives.
-pub fn att_bytes(uuid: Uuid) -> Raw
-    ensures { λ r. ⌜ r ≡ rawOf (attBytes uuid) ⌝ }
-{
-    let form = uuid.form;
-    let all = uuid.bytes;
-    match form {
-        Form::Uuid16 => as_raw(uuid),
-        Form::Uuid32 => {
-            let bytes = on_base(all);
-            Raw { bytes, len: 16 }
-        }
-        Form::Uuid128 => as_raw(uuid),
-    }
-}
-
-// The number of a 16-bit UUID.
-pub fn as_short(uuid: Uuid) -> ReadU16
-    ensures { λ r. ⌜ r ≡ shortOf uuid ⌝ }
-{
-    let form = uuid.form;
-    let all = uuid.bytes;
-    match form {
-        Form::Uuid16 => ReadU16::Value(primitives::u16_at(&all, 0)),
-        Form::Uuid32 => ReadU16::Refused(Error::InvalidValue),
-        Form::Uuid128 => ReadU16::Refused(Error::InvalidValue),
-    }
-}
-
 // Whether two UUIDs are equal, from their own bytes.
 pub fn equal_types(a: &[u8], b: &[u8]) -> bool
     ensures { λ r. ⌜ r ≡ equalTypes (now (a .entry)) (now (b .entry)) ⌝ }
 {
     check::same(a, b)
-}
-
-pub fn eq(a: Uuid, b: Uuid) -> bool
-    ensures { λ r. ⌜ r ≡ equal a b ⌝ }
-{
-    let f = a.form;
-    let g = b.form;
-    let x = a.bytes;
-    let y = b.bytes;
-    let n = width(f);
-    let m = width(g);
-    equal_types(&x[0..n], &y[0..m])
 }
 
 fn accepted(form: Form, own: &[u8]) -> Sliced
@@ -198,7 +212,7 @@ fn accepted(form: Form, own: &[u8]) -> Sliced
 {
     let bytes = pad(own);
     Sliced {
-        answer: Answer::Accepted,
+        answer: Checked::Accepted,
         uuid: Uuid { form, bytes },
     }
 }

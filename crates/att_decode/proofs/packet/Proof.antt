@@ -13,8 +13,11 @@ refused-requires c κs = search needs
 returns : tie.Need-returns
 returns c = rw (c .refused .ensures, lt-leb _ _ (c .before .if1 .taken))
 
+no-uuid-requires : tie.Need-no-uuid-requires
+no-uuid-requires c κs = search needs
+
 returns-2 : tie.Need-returns-2
-returns-2 c = rw (le-leb _ _ (c .if1 .left))
+returns-2 c = rw (c .no-uuid .ensures, le-leb _ _ (c .before .if1 .left))
 
 pub packet-spec : {M : Type 1} → statement M
-packet-spec = tie.close (tie.spec refused-requires returns returns-2)
+packet-spec = tie.close (tie.spec refused-requires returns no-uuid-requires returns-2)

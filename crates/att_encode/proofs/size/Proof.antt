@@ -1,14 +1,18 @@
 -- The layout and the place tell the packet's length; a place is refused exactly when the packet is not sent.
+use mathlib.Core.Path.{ap, _∙_}
 use native.Mathlib.Omega.{arith}
 use Rattle.att.specs.Typed.{showAtt}
 use Rattle.att_encode.proofs.PlaceLaws.{Found, received-within, received-size, air-within, air-size, len-short, refused-size}
+use Rattle.att_layout.specs.Layout.{headBytes}
+use Rattle.att_layout.specs.LayoutLaws.{heads}
+use Rattle.att_layout.specs.declared.Layout.{Layout}
 use borrow.Author.Needs.{needs}
 use Rattle.att_encode.proofs.size.Statement.{statement}
 use Rattle.att_encode.proofs.size.Tie as tie
 
 ready : (c : tie.After-locate)
     → Found (showAtt (c .before .before .before .before .args .att)) (c .before .before .before .before .args .uuid) (c .before .before .before .before .args .src .now) (c .before .before .lay-out .result) (c .before .on-air .result) (c .locate .result)
-ready c = record { laidOut = c .before .before .lay-out .ensures; onTheAir = c .before .on-air .ensures; eight = search needs; sixteen = search needs; found = c .locate .ensures }
+ready c = record { laidOut = c .before .before .lay-out .ensures; onTheAir = c .before .on-air .ensures; headed = ap (λ (k : Layout). headBytes (k .opcode) (k .fields)) (c .before .before .lay-out .ensures) ∙ heads (c .before .before .before .before .args .att); sixteen = search needs; found = c .locate .ensures }
 
 lay-out-requires : tie.Need-lay-out-requires
 lay-out-requires c κs = search needs

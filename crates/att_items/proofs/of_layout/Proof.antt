@@ -1,4 +1,4 @@
--- The first byte of the head is the opcode; where the iterator is for it, the item is the one that fits.
+-- Where the iterator is for it, the item is the one that fits.
 use mathlib.Core.Path.{sym, _∙_}
 use Rattle.att_items.specs.Iterators.{ofLayout}
 use borrow.Author.Needs.{needs}
@@ -7,9 +7,6 @@ use Rattle.att_items.proofs.of_layout.Tie as tie
 
 each-of-requires : tie.Need-each-of-requires
 each-of-requires c κs = search needs
-
-array-read-named : tie.Need-array-read-named
-array-read-named c = search needs
 
 named-requires : tie.Need-named-requires
 named-requires c κs = search needs
@@ -28,4 +25,4 @@ returns-2 c = rw (sym (c .before .named .ensures) ∙ c .if1 .left)
 pub of-layout-spec : {M : Type 1} → statement M
 of-layout-spec =
     tie.close
-    (tie.spec each-of-requires array-read-named named-requires fit-requires returns returns-2)
+    (tie.spec each-of-requires named-requires fit-requires returns returns-2)

@@ -1,14 +1,14 @@
--- The item found lies within the received bytes and has its handle; the rest is the range behind that.
+-- The item found lies within the received bytes, and its bytes are read by the function of one item.
 use native.Mathlib.Omega.{arith}
-use Prim.Native.Nat.{ℕ, _+_, _-_}
-use mathlib.Core.Path.{sym, ap, _∙_}
-use Rattle.codec.specs.BufferLaws.{part-whole}
-use Rattle.primitives.specs.Numbers.{numberAt}
-use Rattle.att.specs.Typed.{span}
-use Rattle.att_items.specs.Iterators.{valueOf}
+use Prim.Native.Nat.{ℕ, _<_, _^_}
+use mathlib.Core.Path.{refl, _∙_}
+use mathlib.Core.List.{List}
+use lib.ListN.{length, drop}
+use Rattle.cursor.specs.ReadingLaws.{rest-drop}
+use Rattle.att.specs.Typed.{showAtt}
+use Rattle.att_items.specs.Iterators.{valueOf, valueAt}
 use Rattle.att_items.specs.declared.Step.{Step}
-use Rattle.att_items.specs.declared.HandleValue.the-variants as handleValue
-use Rattle.att_items.proofs.StepLaws.{found-inside}
+use Rattle.att_items.proofs.StepLaws.{cut-item, of-item, at-end, pair-length}
 use borrow.Author.Needs.{needs}
 use Rattle.att_items.proofs.read_by_type_next.Statement.{statement}
 use Rattle.att_items.proofs.read_by_type_next.Tie as tie
@@ -19,44 +19,37 @@ item-requires c κs = search needs
 enum-known-s : tie.Need-enum-known-s
 enum-known-s c = search needs
 
-add-end : tie.Need-add-end
-add-end c = let w = found-inside _ _ _ _ _ _ _ _ _ (c .before .before .before .item .ensures) (c .before .s .given .1) in omega (arith, w .0)
+slice-requires : tie.Need-slice-requires
+slice-requires c κs = search needs
 
-sub-u16-at : tie.Need-sub-u16-at
-sub-u16-at c = search needs
-
-part-u16-at-start : tie.Need-part-u16-at-start
-part-u16-at-start c = search needs
-
-part-u16-at-end : tie.Need-part-u16-at-end
-part-u16-at-end c = let w = found-inside _ _ _ _ _ _ _ _ _ (c .before .before .before .item .ensures) (c .before .s .given .1) in omega (arith, w .0)
-
-u16-at-requires : tie.Need-u16-at-requires
-u16-at-requires c κs = search needs
-
-add-t15 : tie.Need-add-t15
-add-t15 c = let w = found-inside _ _ _ _ _ _ _ _ _ (c .before .before .before .before .before .item .ensures) (c .before .before .before .s .given .1) in omega (arith, w .0, w .1)
-
-sub-t16 : tie.Need-sub-t16
-sub-t16 c = let w = found-inside _ _ _ _ _ _ _ _ _ (c .before .before .before .before .before .item .ensures) (c .before .before .before .s .given .1) in omega (arith, w .0, w .1)
+value-at-requires : tie.Need-value-at-requires
+value-at-requires c κs =
+    let s = c .before .before in
+    let t = s .before .before in
+    let x = t .before .before .args in
+    let v = s .s .given in
+    let w = cut-item 0x09 0x11 (showAtt (x .att)) (x .src .now) (x .pos) (t .item .ensures) _ _ _ _ (v .1) (c .slice .ensures) in
+    let n : length (x .src .now) < 2 ^ 64 = search needs in
+    (omega (arith, w .1, w .2), omega (arith, w .1, w .3))
 
 enum-told : tie.Need-enum-told
 enum-told c = search needs
 
 returns : tie.Need-returns
 returns c =
-    let g = c .before .before .before in
-    let a = g .before .before .before .before .args in
-    let v = g .s .given in
-    ap
-    (λ (n : ℕ). handleValue.Item n (span (v .0 .0 + 2) (v .0 .1 .0 - 2)) (v .0 .1 .1 .0))
-    (c .u16-at .ensures ∙ ap (numberAt 2 0) (part-whole (v .0 .0) (v .0 .1 .0) (a .src .now)))
-    ∙ sym (ap (λ (q : Step). valueOf q (a .src .now)) (sym (g .before .before .item .ensures) ∙ v .1))
+    let s = c .before .before .before in
+    let t = s .before .before in
+    let x = t .before .before .args in
+    let v = s .s .given in
+    c .value-at .ensures ∙
+    of-item 0x09 0x11 (showAtt (x .att)) (x .src .now) (x .pos) (t .item .ensures) (λ (q : Step). valueOf q (x .src .now)) (λ (y : List ℕ). valueAt (v .0 .0) y (v .0 .1 .1 .0)) _ _ _ _ refl (v .1) (c .before .slice .ensures)
 
 returns-2 : tie.Need-returns-2
 returns-2 c =
-    let a = c .before .before .before .before .args in
-    sym (ap (λ (q : Step). valueOf q (a .src .now)) (sym (c .before .before .item .ensures) ∙ c .enum-told .given .1))
+    let e = c in
+    let t = e .before .before in
+    let x = t .before .before .args in
+    at-end 0x09 0x11 (showAtt (x .att)) (x .src .now) (x .pos) (t .item .ensures) (λ (q : Step). valueOf q (x .src .now)) (e .enum-told .given .1)
 
 pub read-by-type-next-spec : {M : Type 1} → statement M
 read-by-type-next-spec =
@@ -64,13 +57,8 @@ read-by-type-next-spec =
     (tie.spec
     item-requires
     enum-known-s
-    add-end
-    sub-u16-at
-    part-u16-at-start
-    part-u16-at-end
-    u16-at-requires
-    add-t15
-    sub-t16
+    slice-requires
+    value-at-requires
     enum-told
     returns
     returns-2)

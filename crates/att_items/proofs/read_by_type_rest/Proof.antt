@@ -1,13 +1,14 @@
--- The item found lies within the received bytes; behind its handle is the rest, and at the end there is none.
+-- The item found lies within the received bytes, and its bytes are read by the function of one item.
 use native.Mathlib.Omega.{arith}
-use Prim.Native.Nat.{ℕ}
-use mathlib.Core.Path.{sym, ap, _∙_}
+use Prim.Native.Nat.{ℕ, _<_, _^_}
+use mathlib.Core.Path.{refl, _∙_}
 use mathlib.Core.List.{List}
-use lib.ListN.{drop}
-use Rattle.codec.specs.BufferLaws.{part-whole}
+use lib.ListN.{length, drop}
+use Rattle.cursor.specs.ReadingLaws.{rest-drop}
+use Rattle.att.specs.Typed.{showAtt}
 use Rattle.att_items.specs.Iterators.{restOf}
 use Rattle.att_items.specs.declared.Step.{Step}
-use Rattle.att_items.proofs.StepLaws.{found-inside}
+use Rattle.att_items.proofs.StepLaws.{cut-item, of-item, at-end, pair-length}
 use borrow.Author.Needs.{needs}
 use Rattle.att_items.proofs.read_by_type_rest.Statement.{statement}
 use Rattle.att_items.proofs.read_by_type_rest.Tie as tie
@@ -18,20 +19,11 @@ item-requires c κs = search needs
 enum-known-s : tie.Need-enum-known-s
 enum-known-s c = search needs
 
-add-end : tie.Need-add-end
-add-end c = let w = found-inside _ _ _ _ _ _ _ _ _ (c .before .before .before .item .ensures) (c .before .s .given .1) in omega (arith, w .0)
+slice-requires : tie.Need-slice-requires
+slice-requires c κs = search needs
 
-sub-behind-handle : tie.Need-sub-behind-handle
-sub-behind-handle c = search needs
-
-part-behind-handle-start : tie.Need-part-behind-handle-start
-part-behind-handle-start c = search needs
-
-part-behind-handle-end : tie.Need-part-behind-handle-end
-part-behind-handle-end c = let w = found-inside _ _ _ _ _ _ _ _ _ (c .before .before .before .item .ensures) (c .before .s .given .1) in omega (arith, w .0)
-
-behind-handle-requires : tie.Need-behind-handle-requires
-behind-handle-requires c κs = search needs
+remaining-requires : tie.Need-remaining-requires
+remaining-requires c κs = search needs
 
 enum-told : tie.Need-enum-told
 enum-told c = search needs
@@ -47,17 +39,19 @@ part-result-end c = search needs
 
 returns : tie.Need-returns
 returns c =
-    let g = c .before .before .before in
-    let a = g .before .before .before .before .args in
-    let v = g .s .given in
-    c .behind-handle .ensures
-    ∙ ap (λ (i : List ℕ). drop 2 i) (part-whole (v .0 .0) (v .0 .1 .0) (a .src .now))
-    ∙ sym (ap (λ (q : Step). restOf q (a .src .now)) (sym (g .before .before .item .ensures) ∙ v .1))
+    let s = c .before .before .before in
+    let t = s .before .before in
+    let x = t .before .before .args in
+    let v = s .s .given in
+    c .remaining .ensures ∙ rest-drop 2 (c .before .slice .result .now) ∙
+    of-item 0x09 0x11 (showAtt (x .att)) (x .src .now) (x .pos) (t .item .ensures) (λ (q : Step). restOf q (x .src .now)) (λ (y : List ℕ). drop 2 y) _ _ _ _ refl (v .1) (c .before .slice .ensures)
 
 returns-2 : tie.Need-returns-2
 returns-2 c =
-    let a = c .before .before .before .before .before .args in
-    sym (ap (λ (q : Step). restOf q (a .src .now)) (sym (c .before .before .before .item .ensures) ∙ c .before .enum-told .given .1))
+    let e = c .before in
+    let t = e .before .before in
+    let x = t .before .before .args in
+    at-end 0x09 0x11 (showAtt (x .att)) (x .src .now) (x .pos) (t .item .ensures) (λ (q : Step). restOf q (x .src .now)) (e .enum-told .given .1)
 
 pub read-by-type-rest-spec : {M : Type 1} → statement M
 read-by-type-rest-spec =
@@ -65,11 +59,8 @@ read-by-type-rest-spec =
     (tie.spec
     item-requires
     enum-known-s
-    add-end
-    sub-behind-handle
-    part-behind-handle-start
-    part-behind-handle-end
-    behind-handle-requires
+    slice-requires
+    remaining-requires
     enum-told
     sub-result
     part-result-start

@@ -23,17 +23,23 @@ followed-requires c κs = search needs
 enum-known-r-3 : tie.Need-enum-known-r-3
 enum-known-r-3 c = search needs
 
+to-u8-requires : tie.Need-to-u8-requires
+to-u8-requires c κs = search needs
+
 byte-requires : tie.Need-byte-requires
 byte-requires c κs = search needs
 
-by-format-requires : tie.Need-by-format-requires
-by-format-requires c κs = search needs
+pair-len-requires : tie.Need-pair-len-requires
+pair-len-requires c κs = search needs
 
 followed-requires-2 : tie.Need-followed-requires-2
 followed-requires-2 c κs = search needs
 
 enum-known-r-4 : tie.Need-enum-known-r-4
 enum-known-r-4 c = search needs
+
+to-u8-requires-2 : tie.Need-to-u8-requires-2
+to-u8-requires-2 c κs = search needs
 
 error-requires : tie.Need-error-requires
 error-requires c κs = search needs
@@ -44,8 +50,8 @@ enum-known-r-5 c = search needs
 byte-requires-2 : tie.Need-byte-requires-2
 byte-requires-2 c κs = search needs
 
-cast-t22 : tie.Need-cast-t22
-cast-t22 c = search needs
+cast-t24 : tie.Need-cast-t24
+cast-t24 c = search needs
 
 followed-requires-3 : tie.Need-followed-requires-3
 followed-requires-3 c κs = search needs
@@ -56,8 +62,8 @@ enum-known-r-6 c = search needs
 byte-requires-3 : tie.Need-byte-requires-3
 byte-requires-3 c κs = search needs
 
-cast-t25 : tie.Need-cast-t25
-cast-t25 c = search needs
+cast-t27 : tie.Need-cast-t27
+cast-t27 c = search needs
 
 followed-requires-4 : tie.Need-followed-requires-4
 followed-requires-4 c κs = search needs
@@ -96,11 +102,11 @@ returns-2 c = rw (c .followed .ensures, c .before .bare .ensures, c .before .bef
 
 returns-3 : tie.Need-returns-3
 unfolding layoutOf shapeOf rows
-returns-3 c = rw (c .followed2 .ensures, c .before .by-format .ensures, c .before .before .byte .ensures, c .before .before .before .before .r3 .given .1)
+returns-3 c = rw (c .followed2 .ensures, c .before .pair-len .ensures, c .before .before .byte .ensures, c .before .before .before .to-u8 .ensures, c .before .before .before .before .before .r3 .given .1)
 
 returns-4 : tie.Need-returns-4
 unfolding layoutOf shapeOf rows
-returns-4 c = rw (c .error .ensures, c .before .before .r4 .given .1)
+returns-4 c = rw (c .error .ensures, c .before .to-u82 .ensures, c .before .before .before .r4 .given .1)
 
 returns-5 : tie.Need-returns-5
 unfolding layoutOf shapeOf rows
@@ -132,18 +138,20 @@ lay-out-rsp-spec =
     bare-requires
     followed-requires
     enum-known-r-3
+    to-u8-requires
     byte-requires
-    by-format-requires
+    pair-len-requires
     followed-requires-2
     enum-known-r-4
+    to-u8-requires-2
     error-requires
     enum-known-r-5
     byte-requires-2
-    cast-t22
+    cast-t24
     followed-requires-3
     enum-known-r-6
     byte-requires-3
-    cast-t25
+    cast-t27
     followed-requires-4
     enum-known-r-7
     bare-requires-2

@@ -1,5 +1,5 @@
 -- An arm's row computes at the arm's opcode to what its call tests; the default arm's opcode is that of no row.
-use Rattle.codec.specs.CasesLaws.{None}
+use Rattle.codec.specs.Cases.{None}
 use Rattle.att.specs.Wire.{rows, shapeOf}
 use Rattle.att_strict.proofs.Rows.{strict-missing}
 use borrow.Author.Needs.{needs}

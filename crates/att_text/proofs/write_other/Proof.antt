@@ -7,7 +7,7 @@ use mathlib.Core.Logic.{⊎-elim, inl, inr}
 use native.Mathlib.Omega.{arith}
 use borrow.Author.Needs.{needs}
 use lib.ListN.{take, drop}
-use Rattle.codec.specs.CasesLaws.{None}
+use Rattle.codec.specs.Cases.{None}
 use Rattle.att_error.specs.Texts.{textOf, texts, application, unknown}
 use Rattle.att_error.specs.TextsLaws.{text-application, text-unknown, told}
 use Rattle.att_text.proofs.write_other.Statement.{statement}

@@ -1,25 +1,10 @@
 -- forward's answer says whether there is room; then the part from the position on is lent, and comes back with the bytes laid over it.
-use Prim.Native.Nat.{_+_, _≤_, _<_}
-use mathlib.Core.Path.{_≡_}
 use lib.ListN.{length}
-use Rattle.codec.specs.declared.Error.the-variants.{InsufficientSpace}
-use Rattle.cursor.specs.PositionLaws.{went, stayed}
-use Rattle.cursor_write.specs.WritingLaws.{write-whole, write-short}
+use Rattle.cursor.specs.PositionLaws.{went}
+use Rattle.cursor_write.specs.WritingLaws.{write-went, write-stayed}
 use borrow.Author.Needs.{needs}
 use Rattle.cursor_write.proofs.append.Statement.{statement}
 use Rattle.cursor_write.proofs.append.Tie as tie
-
-room : (c : tie.After-next) → let a = c .before .before .before .before .before .args in (c .next .given .0 .0 ≡ a .pos + (length (a .src .now))) × (a .pos + (length (a .src .now)) ≤ length (a .«data» .now))
-room c =
-    let f = c .before .before in
-    let a = f .before .before .before .args in
-    went (a .pos) (length (a .«data» .now)) (length (a .src .now)) _ (c .next .given .1) (f .forward .ensures)
-
-short : (c : tie.After-e) → let a = c .before .before .before .before .before .args in (c .e .given .0 .0 ≡ InsufficientSpace) × (length (a .«data» .now) < a .pos + (length (a .src .now)))
-short c =
-    let f = c .before .before in
-    let a = f .before .before .before .args in
-    stayed (a .pos) (length (a .«data» .now)) (length (a .src .now)) _ (c .e .given .1) (f .forward .ensures)
 
 forward-requires : tie.Need-forward-requires
 forward-requires c κs = search needs
@@ -28,10 +13,18 @@ enum-known-next : tie.Need-enum-known-next
 enum-known-next c = search needs
 
 sub-write-bytes : tie.Need-sub-write-bytes
-sub-write-bytes c = let w = room (c .before) in search needs
+sub-write-bytes c =
+    let f = c .before .before .before in
+    let a = f .before .before .before .args in
+    let w = went (a .pos) (length (a .«data» .now)) (length (a .src .now)) _ (c .before .next .given .1) (f .forward .ensures) in
+    search needs
 
 part-write-bytes-start : tie.Need-part-write-bytes-start
-part-write-bytes-start c = let w = room (c .before) in search needs
+part-write-bytes-start c =
+    let f = c .before .before .before in
+    let a = f .before .before .before .args in
+    let w = went (a .pos) (length (a .«data» .now)) (length (a .src .now)) _ (c .before .next .given .1) (f .forward .ensures) in
+    search needs
 
 part-write-bytes-end : tie.Need-part-write-bytes-end
 part-write-bytes-end c = search needs
@@ -47,12 +40,18 @@ same-length c = search needs
 
 returns : tie.Need-returns
 returns c =
-    let f = c .before .before in
-    let a = f .before .before .before .before .before .before .before .before .args in
-    write-whole (a .pos) _ (a .src .now) (a .«data» .now) _ (room (f .before .before .before)) (f .write-bytes .ensures .1)
+    let w = c .before .before in
+    let t = w .before .before .before in
+    let f = t .before .before in
+    let a = f .before .before .before .args in
+    write-went (a .pos) (a .src .now) (a .«data» .now) (f .forward .ensures) _ _ (t .next .given .1) (w .write-bytes .ensures .1)
 
 returns-2 : tie.Need-returns-2
-returns-2 c = let a = c .before .before .before .before .before .before .args in write-short (a .pos) (a .src .now) (a .«data» .now) _ (short (c .before))
+returns-2 c =
+    let t = c .before in
+    let f = t .before .before in
+    let a = f .before .before .before .args in
+    write-stayed (a .pos) (a .src .now) (a .«data» .now) (f .forward .ensures) _ (t .e .given .1)
 
 pub append-spec : {M : Type 1} → statement M
 append-spec =

@@ -1,5 +1,5 @@
 -- `explain_client::client` meets its contract: each arm writes the texts of its packet.
-use Rattle.console.specs.ConsoleLaws.{one, joined}
+use Rattle.text_put.specs.PutLaws.{one, joined}
 use Rattle.explain_client.specs.ClientsLaws.{client-as}
 use borrow.Author.Needs.{needs}
 use Rattle.explain_client.proofs.client.Statement.{statement}

@@ -1,5 +1,5 @@
 -- `explain_client::confirmation` meets its contract: there is one confirmation.
-use Rattle.console.specs.ConsoleLaws.{one}
+use Rattle.text_put.specs.PutLaws.{one}
 use Rattle.explain_client.specs.ClientsLaws.{confirmation-is}
 use borrow.Author.Needs.{needs}
 use Rattle.explain_client.proofs.confirmation.Statement.{statement}

@@ -1,5 +1,5 @@
 -- `explain_client::sought` meets its contract: the value stands behind the type.
-use Rattle.console.specs.ConsoleLaws.{joined}
+use Rattle.text_put.specs.PutLaws.{joined}
 use borrow.Author.Needs.{needs}
 use Rattle.explain_client.proofs.sought.Statement.{statement}
 use Rattle.explain_client.proofs.sought.Tie as tie

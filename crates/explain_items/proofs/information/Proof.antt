@@ -1,5 +1,5 @@
 -- `explain_items::information` meets its contract: the texts of the item that is there.
-use Rattle.console.specs.ConsoleLaws.{joined}
+use Rattle.text_put.specs.PutLaws.{joined}
 use Rattle.explain_items.specs.Items.{informations, stepIn}
 use Rattle.explain_items.specs.ItemsLaws.{information-item, information-end}
 use borrow.Author.Needs.{needs}

@@ -2,9 +2,9 @@
 use mathlib.Core.Path.{_≡_, refl}
 use lib.ListN.{length}
 use native.Mathlib.Omega.{arith}
-use Rattle.console.specs.ConsoleLaws.{flipped}
+use Rattle.text_put.specs.PutLaws.{flipped, unflipped}
 use Rattle.explain_items.specs.Items.{kindOf}
-use Rattle.explain_items.specs.ItemsLaws.{Writing, nothing-written, more-written, all-written, used-up, unflipped}
+use Rattle.explain_items.specs.ItemsLaws.{Writing, nothing-written, more-written, all-written, used-up}
 use Rattle.explain_items.proofs.items.Statement.{statement}
 use Rattle.explain_items.proofs.items.Tie as tie
 

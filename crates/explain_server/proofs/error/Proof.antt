@@ -1,5 +1,5 @@
 -- `explain_server::error` meets its contract: the code and its text stand behind the request and the handle.
-use Rattle.console.specs.ConsoleLaws.{joined}
+use Rattle.text_put.specs.PutLaws.{joined}
 use borrow.Author.Needs.{needs}
 use Rattle.explain_server.proofs.error.Statement.{statement}
 use Rattle.explain_server.proofs.error.Tie as tie

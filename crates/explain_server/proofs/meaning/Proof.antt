@@ -1,8 +1,9 @@
 -- `explain_server::meaning` meets its contract: the text stands whole in the bytes that it is spelt into.
-use mathlib.Core.Path.{refl, sym, _∙_}
+use mathlib.Core.Path.{sym, _∙_}
 use lib.ListN.{replicate}
-use Rattle.console.specs.ConsoleLaws.{one, one-as, joined}
-use Rattle.explain_server.specs.ServersLaws.{text-stands, text-fits}
+use Rattle.att_error.specs.Texts.{textOf}
+use Rattle.text_put.specs.PutLaws.{one, one-as, joined, stands}
+use Rattle.explain_server.specs.ServersLaws.{text-fits}
 use borrow.Author.Needs.{needs}
 use Rattle.explain_server.proofs.meaning.Statement.{statement}
 use Rattle.explain_server.proofs.meaning.Tie as tie
@@ -58,7 +59,7 @@ returns c =
     let w = n .before .before .before in
     let b = w .before .before .before .before in
     let s = b .before .before .before .before in
-    let g = text-stands (s .args .code) (replicate 256 0) refl _ _ (sym (w .write-text .ensures .0) ∙ n .n .given .1) (w .write-text .ensures .1) in
+    let g = stands (textOf (s .args .code)) (replicate 256 0) _ _ (sym (w .write-text .ensures .0) ∙ n .n .given .1) (w .write-text .ensures .1) in
     joined _ _ _ _ _ _ _ _ (one _ _ _ _ _ (b .text .ensures)) (joined _ _ _ _ _ _ _ _ (one-as _ _ _ _ _ _ (f .first .ensures ∙ g) (t .text2 .ensures)) (one _ _ _ _ _ (e .text3 .ensures)))
 
 same-length-2 : tie.Need-same-length-2
@@ -69,7 +70,7 @@ returns-2 c =
     let x = c .before .before .before .before .before in
     let w = x .before .before .before in
     let s = w .before .before .before .before .before .before .before .before in
-    absurd (text-fits (s .args .code) (replicate 256 0) refl _ (sym (w .write-text .ensures .0) ∙ x .enum-told .given .1))
+    absurd (text-fits (s .args .code) _ (sym (w .write-text .ensures .0) ∙ x .enum-told .given .1))
 
 pub meaning-spec : {M : Type 1} → statement M
 meaning-spec =

@@ -1,5 +1,5 @@
 -- `explain_server::response` meets its contract: each arm writes the texts of its response.
-use Rattle.console.specs.ConsoleLaws.{one, joined}
+use Rattle.text_put.specs.PutLaws.{one, joined}
 use Rattle.explain_server.specs.ServersLaws.{response-as}
 use borrow.Author.Needs.{needs}
 use Rattle.explain_server.proofs.response.Statement.{statement}
@@ -29,11 +29,8 @@ items-requires c κs = search needs
 enum-known-r-2 : tie.Need-enum-known-r-2
 enum-known-r-2 c = search needs
 
-slice-aggregate-byte : tie.Need-slice-aggregate-byte
-slice-aggregate-byte c = search needs
-
-byte-requires : tie.Need-byte-requires
-byte-requires c κs = search needs
+format-byte-requires : tie.Need-format-byte-requires
+format-byte-requires c κs = search needs
 
 items-requires-2 : tie.Need-items-requires-2
 items-requires-2 c κs = search needs
@@ -125,7 +122,7 @@ returns-3 : tie.Need-returns-3
 returns-3 c =
     let h = c .before .before in
     let k = h .before .before .before .before in
-    response-as _ _ _ _ _ _ _ _ (k .before .before .before .before .r2 .given .1) (joined _ _ _ _ _ _ _ _ (k .byte .ensures) (h .items2 .ensures))
+    response-as _ _ _ _ _ _ _ _ (k .before .before .before .r2 .given .1) (joined _ _ _ _ _ _ _ _ (k .format-byte .ensures) (h .items2 .ensures))
 
 same-length-4 : tie.Need-same-length-4
 same-length-4 c = search needs
@@ -189,8 +186,7 @@ response-spec =
     text-requires
     items-requires
     enum-known-r-2
-    slice-aggregate-byte
-    byte-requires
+    format-byte-requires
     items-requires-2
     enum-known-r-3
     error-requires

@@ -1,5 +1,5 @@
 -- `explain_server::server` meets its contract: each arm writes the texts of its packet.
-use Rattle.console.specs.ConsoleLaws.{one, joined}
+use Rattle.text_put.specs.PutLaws.{one, joined}
 use Rattle.explain_server.specs.ServersLaws.{server-as}
 use borrow.Author.Needs.{needs}
 use Rattle.explain_server.proofs.server.Statement.{statement}

@@ -7,20 +7,20 @@ use Rattle.explain_server.proofs.unsolicited.Tie as tie
 enum-known-u : tie.Need-enum-known-u
 enum-known-u c = search needs
 
-slice-aggregate-told : tie.Need-slice-aggregate-told
-slice-aggregate-told c = search needs
+slice-aggregate-value : tie.Need-slice-aggregate-value
+slice-aggregate-value c = search needs
 
-told-requires : tie.Need-told-requires
-told-requires c κs = search needs
+value-requires : tie.Need-value-requires
+value-requires c κs = search needs
 
 enum-known-u-2 : tie.Need-enum-known-u-2
 enum-known-u-2 c = search needs
 
-slice-aggregate-told-2 : tie.Need-slice-aggregate-told-2
-slice-aggregate-told-2 c = search needs
+slice-aggregate-value-2 : tie.Need-slice-aggregate-value-2
+slice-aggregate-value-2 c = search needs
 
-told-requires-2 : tie.Need-told-requires-2
-told-requires-2 c κs = search needs
+value-requires-2 : tie.Need-value-requires-2
+value-requires-2 c κs = search needs
 
 same-length : tie.Need-same-length
 same-length c = search needs
@@ -28,7 +28,7 @@ same-length c = search needs
 returns : tie.Need-returns
 returns c =
     let h = c .before .before in
-    unsolicited-as _ _ _ _ _ _ _ (h .before .before .before .before .u .given .1) (h .told .ensures)
+    unsolicited-as _ _ _ _ _ _ _ (h .before .before .before .before .u .given .1) (h .value .ensures)
 
 same-length-2 : tie.Need-same-length-2
 same-length-2 c = search needs
@@ -36,18 +36,18 @@ same-length-2 c = search needs
 returns-2 : tie.Need-returns-2
 returns-2 c =
     let h = c .before .before in
-    unsolicited-as _ _ _ _ _ _ _ (h .before .before .before .before .u2 .given .1) (h .told2 .ensures)
+    unsolicited-as _ _ _ _ _ _ _ (h .before .before .before .before .u2 .given .1) (h .value2 .ensures)
 
 pub unsolicited-spec : {M : Type 1} → statement M
 unsolicited-spec =
     tie.close
     (tie.spec
     enum-known-u
-    slice-aggregate-told
-    told-requires
+    slice-aggregate-value
+    value-requires
     enum-known-u-2
-    slice-aggregate-told-2
-    told-requires-2
+    slice-aggregate-value-2
+    value-requires-2
     same-length
     returns
     same-length-2

@@ -1,8 +1,8 @@
 -- `replay_base::double` meets its contract: the lower half stands behind the higher.
 use Prim.Native.Nat.{_/_, _%_}
 use mathlib.Core.List.{[], _∷_}
-use Rattle.print.specs.Print.{capitals}
-use Rattle.console.specs.ConsoleLaws.{then}
+use Rattle.text_print.specs.Print.{capitals}
+use Rattle.text_put.specs.PutLaws.{then}
 use borrow.Author.Needs.{needs}
 use Rattle.replay_base.proofs.double.Statement.{statement}
 use Rattle.replay_base.proofs.double.Tie as tie

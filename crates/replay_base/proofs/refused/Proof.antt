@@ -1,7 +1,7 @@
 -- `replay_base::refused` meets its contract: the number stands behind the text.
 use mathlib.Core.Path.{ap, _∙_}
 use Rattle.codec.specs.Ascii.{ascii}
-use Rattle.codec.specs.Refusals.{numberOf, refusalOf}
+use Rattle.codec.specs.Refusals.{refusalNumber, refusalOf}
 use Rattle.replay_base.specs.BaseLaws.{number-behind}
 use borrow.Author.Needs.{needs}
 use Rattle.replay_base.proofs.refused.Statement.{statement}
@@ -34,8 +34,8 @@ returns c =
     let n = h .before in
     let t = n .before .before .before .before .before .before in
     let a = t .before .before .before .before .args in
-    number-behind (a .pos) _ _ _ (numberOf (refusalOf (a .e))) (a .name .now) (ascii "!") (a .out .now) _ _
-    (n .number .ensures ∙ ap numberOf (n .before .from-error .ensures)) (t .text .ensures) (h .count .ensures)
+    number-behind (a .pos) _ _ _ (refusalNumber (refusalOf (a .e))) (a .name .now) (ascii "!") (a .out .now) _ _
+    (n .number .ensures ∙ ap refusalNumber (n .before .from-error .ensures)) (t .text .ensures) (h .count .ensures)
 
 pub refused-spec : {M : Type 1} → statement M
 refused-spec =

@@ -1,5 +1,5 @@
 -- `replay_values::byte_reply` meets its contract: the number or the refusal.
-use Rattle.console.specs.ConsoleLaws.{one}
+use Rattle.text_put.specs.PutLaws.{one}
 use Rattle.replay_values.specs.ValuesLaws.{byte-as}
 use borrow.Author.Needs.{needs}
 use Rattle.replay_values.proofs.byte_reply.Statement.{statement}

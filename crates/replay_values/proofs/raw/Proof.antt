@@ -1,5 +1,5 @@
 -- `replay_values::raw` meets its contract: how many count stands behind the bytes.
-use Rattle.console.specs.ConsoleLaws.{joined}
+use Rattle.text_put.specs.PutLaws.{joined}
 use borrow.Author.Needs.{needs}
 use Rattle.replay_values.proofs.raw.Statement.{statement}
 use Rattle.replay_values.proofs.raw.Tie as tie

@@ -1,5 +1,5 @@
 -- `replay_values::uuid_reply` meets its contract: one text behind the other.
-use Rattle.console.specs.ConsoleLaws.{joined}
+use Rattle.text_put.specs.PutLaws.{joined}
 use Rattle.replay_values.specs.ValuesLaws.{number-as, count-as, raw-as}
 use Rattle.uuid.specs.Uuids.{own, attBytes}
 use borrow.Author.Needs.{needs}

@@ -1,14 +1,7 @@
--- Each effect, as the book has it.
-use mathlib.Core.Path.{_≡_, refl, sym, ap, _∙_}
+-- Each effect, as it is carried out.
+use mathlib.Core.Path.{_≡_, refl}
 use Rattle.answers.specs.Contract.{stateOf}
-use Rattle.answers.specs.Serve.{State, changed}
-use Rattle.effects.specs.Said.{meantBy}
-use Rattle.effects.specs.declared.Effect.{Effect}
-use Rattle.responder.specs.Dispatch.{servedBy}
-use mathlib.Core.Bool.{true}
-use lib.ListN.{length}
-use Rattle.attributes.specs.Soundness.{soundTable}
-use Rattle.responder.specs.ServeLaws.{stores-as, changed-as}
+use Rattle.responder.specs.ChangeLaws.{change-as, stores-as}
 use borrow.Author.Needs.{needs}
 use Rattle.responder.proofs.change.Statement.{statement}
 use Rattle.responder.proofs.change.Tie as tie
@@ -28,19 +21,16 @@ part-requires c κs = search needs
 store-requires : tie.Need-store-requires
 store-requires c κs = search needs
 
-sound : (c : tie.Start) → soundTable (c .args .table) (length (c .args .fixed .now)) (length (c .args .live .now)) ≡ true
-sound c = search needs
-
 returns : tie.Need-returns
 returns c =
     let a = c .before .before .before .before .before .args in
-    changed-as (a .answer) (stateOf (a .table) (a .link) (a .fixed .now) (a .live .now)) (a .packet .now) _ _ (a .effect) _ (c .enum-told .given .1) (refl, refl)
+    change-as (a .answer) (stateOf (a .table) (a .link) (a .fixed .now) (a .live .now)) (a .packet .now) _ _ (a .effect) _ (c .enum-told .given .1) (refl, refl)
 
 returns-2 : tie.Need-returns-2
 returns-2 c =
     let k = c .before in
     let a = k .before .before .before .before .before .args in
-    changed-as (a .answer) (stateOf (a .table) (a .link) (a .fixed .now) (a .live .now)) (a .packet .now) _ _ (a .effect) _ (k .effect .given .1) (refl, refl)
+    change-as (a .answer) (stateOf (a .table) (a .link) (a .fixed .now) (a .live .now)) (a .packet .now) _ _ (a .effect) _ (k .effect .given .1) (refl, refl)
 
 same-length : tie.Need-same-length
 same-length c = search needs
@@ -50,10 +40,9 @@ returns-3 c =
     let s = c .before .before .before in
     let p = s .before .before in
     let k = p .before .before in
-    let z = k .before .before .before .before .before in
-    let a = z .args in
-    changed-as (a .answer) (stateOf (a .table) (a .link) (a .fixed .now) (a .live .now)) (a .packet .now) _ _ (a .effect) _ (k .effect2 .given .1)
-    (stores-as (a .answer) (a .table) (a .link) _ _ (a .fixed .now) (a .live .now) (sound z) _ _ _ (s .store .ensures) (p .part .ensures))
+    let a = k .before .before .before .before .before .args in
+    change-as (a .answer) (stateOf (a .table) (a .link) (a .fixed .now) (a .live .now)) (a .packet .now) _ _ (a .effect) _ (k .effect2 .given .1)
+    (stores-as (a .answer) (a .table) (a .link) _ _ (a .fixed .now) (a .live .now) _ _ _ (s .store .ensures) (p .part .ensures))
 
 pub change-spec : {M : Type 1} → statement M
 change-spec =

@@ -5,19 +5,10 @@ use lib.ListN.{length}
 use borrow.Author.Needs.{needs}
 use borrow.Author.Tests.{not-true, not-false}
 use Rattle.attributes.specs.Soundness.{soundTable}
-use Rattle.rules.specs.WalkLaws.{walked-sound}
+use Rattle.table_rules.specs.WalkLaws.{walked-sound}
 use Rattle.table.specs.StepLaws.{add-unsound, add-65th, add-handle, add-type, add-value, add-space, add-done}
 use Rattle.table.proofs.add.Statement.{statement}
 use Rattle.table.proofs.add.Tie as tie
-use Rattle.table.proofs.add.Reads as reads
-use Rattle.table.proofs.add.Lts as lts
-use Rattle.rules.proofs.space_ok.Reads as space-ok-reads
-use Rattle.rules.proofs.type_ok.Reads as type-ok-reads
-use Rattle.rules.proofs.value_ok.Reads as value-ok-reads
-use Rattle.rules.proofs.walk.Reads as walk-reads
-use Rattle.table.proofs.append.Reads as append-reads
-use Rattle.table.proofs.record_for.Reads as record-for-reads
-use Rattle.table.proofs.refuse.Reads as refuse-reads
 
 sound : (c : tie.Else1)
     → soundTable (c .before .before .before .before .before .args .t) (length (c .before .before .before .before .before .args .fixed .now)) (length (c .before .before .before .before .before .args .live .now)) ≡ true

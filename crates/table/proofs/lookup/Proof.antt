@@ -1,5 +1,5 @@
 -- The test of soundness, then the value that is found.
-use mathlib.Core.Path.{_≡_, sym, _∙_}
+use mathlib.Core.Path.{sym, _∙_}
 use borrow.Author.Tests.{not-true, not-false}
 use Rattle.attributes.specs.Ledger.{lookedUp}
 use Rattle.table.specs.StepLaws.{look-bad}

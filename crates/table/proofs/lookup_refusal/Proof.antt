@@ -1,54 +1,39 @@
-use mathlib.Core.Path.{_≡_, sym, _∙_}
-use lib.ListN.{length}
+use mathlib.Core.Path.{sym, _∙_}
 use borrow.Author.Tests.{not-true, not-false}
-use Rattle.attributes.specs.ListLaws.{length-mapped}
 use Rattle.attributes.specs.Additions.{blank}
 use Rattle.table.specs.StepLaws.{look-bad, look-missing, look-there}
 use borrow.Author.Needs.{needs}
 use Rattle.table.proofs.lookup_refusal.Statement.{statement}
 use Rattle.table.proofs.lookup_refusal.Tie as tie
-use Rattle.table.proofs.lookup_refusal.Reads as reads
-use Rattle.table.proofs.lookup_refusal.Lts as lts
-use Rattle.table.proofs.sound_for.Reads as sound-for-reads
 
-full : (c : tie.Start) → length (c .args .t .records) ≡ 64
-full c = search (needs, length-mapped)
-
--- src/lib.rt:134:9
 sound-for-requires : tie.Need-sound-for-requires
 sound-for-requires c κs = search needs
 
--- src/lib.rt:135:9
 returns : tie.Need-returns
 returns c = let a = c .before .before .before .before .args in look-bad (a .t) (a .handle) (a .fixed .now) (a .live .now) (sym (c .before .sound-for .ensures) ∙ not-true _ (c .if1 .taken)) .1
 
--- src/lib.rt:137:11
 find-requires : tie.Need-find-requires
 find-requires c κs = search needs
 
--- src/lib.rt:138:44
 enum-told : tie.Need-enum-told
 enum-told c = search needs
 
--- src/lib.rt:139:25
 enum-told-2 : tie.Need-enum-told-2
 enum-told-2 c = search needs
 
--- src/lib.rt:131:1
 returns-2 : tie.Need-returns-2
 returns-2 c =
     let f = c .before .before in
     let a = f .before .before .before .before .before .args in
-    look-missing (a .t) (a .handle) (a .fixed .now) (a .live .now) (sym (f .before .before .sound-for .ensures) ∙ not-false _ (f .before .if1 .left)) (sym (f .find .ensures) ∙ c .enum-told .given .1) .1
+    look-missing (a .t) (a .handle) (a .fixed .now) (a .live .now) (sym (f .before .before .sound-for .ensures) ∙ not-false _ (f .before .if1 .left)) (sym (f .find .ensures) ∙ c .enum-told .given .1)
 
--- src/lib.rt:131:1
 returns-3 : tie.Need-returns-3
 returns-3 c =
     let f = c .before .before in
     let s = f .before .before .before .before .before in
     let a = s .args in
     look-there (a .t) (a .handle) (a .fixed .now) (a .live .now) (sym (f .before .before .sound-for .ensures) ∙ not-false _ (f .before .if1 .left)) _ blank
-    (sym (f .find .ensures) ∙ c .enum-told2 .given .1) (full s) .1
+    (sym (f .find .ensures) ∙ c .enum-told2 .given .1)
 
 pub lookup-refusal-spec : {M : Type 1} → statement M
 lookup-refusal-spec =

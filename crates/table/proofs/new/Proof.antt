@@ -1,36 +1,25 @@
-use native.Mathlib.Omega.{arith}
 use mathlib.Core.Path.{_∙_, ap}
 use Rattle.attributes.specs.declared.Outcome.the-variants.{Accepted}
-use Rattle.attributes.specs.declared.Changed.{Changed}
 use Rattle.attributes.specs.declared.Table.{Table}
 use Rattle.codec.specs.declared.Refusal.the-variants.{BadTable}
-use Rattle.table.specs.Steps.{refusing}
+use Rattle.attributes.specs.Additions.{refusing}
 use Rattle.table.specs.StepLaws.{new-refused, new-done}
 use borrow.Author.Needs.{needs}
 use Rattle.table.proofs.new.Statement.{statement}
 use Rattle.table.proofs.new.Tie as tie
-use Rattle.table.proofs.new.Reads as reads
-use Rattle.table.proofs.new.Lts as lts
-use Rattle.table.proofs.empty.Reads as empty-reads
-use Rattle.table.proofs.refuse.Reads as refuse-reads
 
--- src/lib.rt:34:23
 empty-requires : tie.Need-empty-requires
 empty-requires c κs = search needs
 
--- src/lib.rt:34:9
 refuse-requires : tie.Need-refuse-requires
 refuse-requires c κs = search needs
 
--- src/lib.rt:34:9
 returns : tie.Need-returns
 returns c = c .refuse .ensures ∙ ap (λ (t : Table). refusing t BadTable) (c .before .empty .ensures) ∙ new-refused _ _ (c .before .before .if1 .taken)
 
--- src/lib.rt:38:16
 empty-requires-2 : tie.Need-empty-requires-2
 empty-requires-2 c κs = search needs
 
--- src/lib.rt:30:1
 returns-2 : tie.Need-returns-2
 returns-2 c = ap (λ (t : Table). record { outcome = Accepted; table = t }) (c .empty2 .ensures) ∙ new-done _ _ (c .before .if1 .left)
 

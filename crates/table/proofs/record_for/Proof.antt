@@ -1,19 +1,12 @@
 use mathlib.Core.Path.{ap}
-use Rattle.attributes.specs.Additions.{fresh}
 use Rattle.attributes.specs.declared.Place.{Place}
-use Rattle.attributes.specs.declared.Record.{Record}
 use borrow.Author.Needs.{needs}
 use Rattle.table.proofs.record_for.Statement.{statement}
 use Rattle.table.proofs.record_for.Tie as tie
-use Rattle.table.proofs.record_for.Reads as reads
-use Rattle.table.proofs.record_for.Lts as lts
-use Rattle.table.proofs.place_for.Reads as place-for-reads
 
--- src/lib.rt:357:9
 place-for-requires : tie.Need-place-for-requires
 place-for-requires c κs = search needs
 
--- src/lib.rt:352:1
 returns : tie.Need-returns
 returns c = let a = c .before .before .args .a in ap (λ (p : Place). record { handle = a .handle; kind = a .kind; readable = a .readable; writable = a .writable; «read_encrypted» = a .«read_encrypted»; «write_encrypted» = a .«write_encrypted»; place = p }) (c .place-for .ensures)
 

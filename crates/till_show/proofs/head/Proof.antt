@@ -1,5 +1,5 @@
 -- `till_show::head` meets its contract: the number and the type stand behind the word.
-use Rattle.console.specs.ConsoleLaws.{joined}
+use Rattle.text_put.specs.PutLaws.{joined}
 use borrow.Author.Needs.{needs}
 use Rattle.till_show.proofs.head.Statement.{statement}
 use Rattle.till_show.proofs.head.Tie as tie

@@ -1,5 +1,5 @@
 -- `till_show::link_line` meets its contract: the texts of a link, one behind the other.
-use Rattle.console.specs.ConsoleLaws.{one, one-as, joined}
+use Rattle.text_put.specs.PutLaws.{one, one-as, joined}
 use Rattle.till_show.specs.ShowLaws.{dashed}
 use borrow.Author.Needs.{needs}
 use Rattle.till_show.proofs.link_line.Statement.{statement}

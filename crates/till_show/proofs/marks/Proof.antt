@@ -1,5 +1,5 @@
 -- `till_show::marks` meets its contract: each letter is the mark's, or nothing.
-use Rattle.console.specs.ConsoleLaws.{one-as, joined}
+use Rattle.text_put.specs.PutLaws.{one-as, joined}
 use borrow.Author.Needs.{needs}
 use Rattle.till_show.proofs.marks.Statement.{statement}
 use Rattle.till_show.proofs.marks.Tie as tie

@@ -1,5 +1,5 @@
 -- `till_show::place_text` meets its contract: the texts of the place that the record has.
-use Rattle.console.specs.ConsoleLaws.{joined}
+use Rattle.text_put.specs.PutLaws.{joined}
 use Rattle.till_show.specs.ShowLaws.{place-as}
 use borrow.Author.Needs.{needs}
 use Rattle.till_show.proofs.place_text.Statement.{statement}

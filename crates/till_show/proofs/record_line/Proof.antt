@@ -1,5 +1,5 @@
 -- `till_show::record_line` meets its contract: the texts of a record, one behind the other.
-use Rattle.console.specs.ConsoleLaws.{joined}
+use Rattle.text_put.specs.PutLaws.{joined}
 use borrow.Author.Needs.{needs}
 use Rattle.till_show.proofs.record_line.Statement.{statement}
 use Rattle.till_show.proofs.record_line.Tie as tie

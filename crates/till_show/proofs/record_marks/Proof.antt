@@ -1,5 +1,5 @@
 -- `till_show::record_marks` meets its contract: the texts of the marks, one behind the other.
-use Rattle.console.specs.ConsoleLaws.{one, one-as, joined}
+use Rattle.text_put.specs.PutLaws.{one, one-as, joined}
 use Rattle.till_show.specs.ShowLaws.{dashed, unset}
 use borrow.Author.Needs.{needs}
 use Rattle.till_show.proofs.record_marks.Statement.{statement}

@@ -15,6 +15,9 @@ accepted-requires-2 c κs = search needs
 accepted-requires-3 : tie.Need-accepted-requires-3
 accepted-requires-3 c κs = search needs
 
+no-uuid-requires : tie.Need-no-uuid-requires
+no-uuid-requires c κs = search needs
+
 returns : tie.Need-returns
 returns c = c .accepted .ensures ∙ sym (sliced-formed Uuid16 (c .before .before .before .args .value .now) (c .before .match .keys1))
 
@@ -25,7 +28,9 @@ returns-3 : tie.Need-returns-3
 returns-3 c = c .accepted3 .ensures ∙ sym (sliced-formed Uuid128 (c .before .before .before .args .value .now) (c .before .match .keys3))
 
 returns-4 : tie.Need-returns-4
-returns-4 c = sym (sliced-refused (c .before .before .args .value .now) (c .match .rest))
+returns-4 c =
+    let m = c .before in
+    rw (c .no-uuid .ensures) (sym (sliced-refused (m .before .before .args .value .now) (m .match .rest)))
 
 pub from-slice-spec : {M : Type 1} → statement M
 from-slice-spec =
@@ -34,6 +39,7 @@ from-slice-spec =
     accepted-requires
     accepted-requires-2
     accepted-requires-3
+    no-uuid-requires
     returns
     returns-2
     returns-3

@@ -1,2 +1,0 @@
-pub mod Console
-pub mod ConsoleLaws

@@ -1,4 +1,0 @@
-pub mod Lists
-pub mod ListsLaws
-pub mod WalkLaws
-pub mod Walks

@@ -1,3 +1,0 @@
-pub mod SearchLaws
-pub mod StepLaws
-pub mod Steps

@@ -1,2 +1,0 @@
-pub mod ListReplies
-pub mod ListRepliesLaws

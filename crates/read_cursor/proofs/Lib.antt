@@ -1,4 +1,0 @@
-pub mod Cursor
-pub mod Thin
-pub mod ThinN
-pub mod Told

@@ -1,4 +1,0 @@
-pub mod Places
-pub mod PlacesLaws
-pub mod Items
-pub mod ItemsLaws

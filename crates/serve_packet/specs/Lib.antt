@@ -1,0 +1,3 @@
+pub mod Packets
+pub mod PacketsLaws
+pub mod SpeakLaws

@@ -1,0 +1,4 @@
+pub mod Search
+pub mod SearchLaws
+pub mod Walk
+pub mod WalkLaws
