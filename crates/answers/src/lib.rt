@@ -1,17 +1,19 @@
 // The link's record, and what serving a packet answers. The book of the responder is in specs/, its
 // theorems in proofs/.
+#![tactic(auto)]
+
 use attributes::Table;
 use codec::Refusal;
 
 // A link: its MTU, whether the exchange was made, and whether it is encrypted.
-#[derive(Drop)]
+#[derive(Clone, Copy)]
 pub struct Link {
     pub mtu: u16,
     pub exchanged: bool,
     pub encrypted: bool,
 }
 
-#[derive(Drop)]
+#[derive(Clone, Copy)]
 pub enum Answer {
     // An answer of this many bytes stands at the start of the output.
     Sent(usize),
@@ -20,7 +22,7 @@ pub enum Answer {
 }
 
 // The answer, with the table and the link as they are after it.
-#[derive(Drop)]
+#[derive(Clone, Copy)]
 pub struct Served {
     pub answer: Answer,
     pub table: Table,

@@ -4,12 +4,14 @@
 // holds neither a slice nor an array.
 //
 // A port of src/att.rs of trouble-host 0.8.0, which was changed: see NOTICE.
+#![tactic(auto)]
+
 ghost use Rattle.std.specs.Prelude.{◌≡◌};
 ghost use Rattle.att.specs.Formats.{format_of, format_number};
 
 use att_error::AttErrorCode;
-use codec::Error;
 use ble_uuid::Uuid;
+use codec::Error;
 
 // The opcodes, by the names of att.rs. Opcode 20 is the Read Multiple Variable Request of the Core Specification (3.4.4.11).
 pub const ATT_READ_BY_GROUP_TYPE_REQ: u8 = 0x10;
@@ -67,14 +69,14 @@ pub const ATT_HANDLE_VALUE_IND: u8 = 0x1D;
 pub const ATT_HANDLE_VALUE_CFM: u8 = 0x1E;
 
 // A part of the bytes that a packet was read from.
-#[derive(Drop)]
+#[derive(Clone, Copy)]
 pub struct Span {
     pub at: usize,
     pub len: usize,
 }
 
 // ATT Request PDU. The UUID of ReadByGroupType and ReadByType stands beside the packet.
-#[derive(Drop)]
+#[derive(Clone, Copy)]
 pub enum AttReq {
     ReadByGroupType {
         start: u16,
@@ -122,20 +124,20 @@ pub enum AttReq {
 }
 
 // ATT Command PDU: Write, the one command.
-#[derive(Drop)]
+#[derive(Clone, Copy)]
 pub struct AttCmd {
     pub handle: u16,
     pub data: Span,
 }
 
 // ATT Confirmation PDU
-#[derive(Drop)]
+#[derive(Clone, Copy)]
 pub enum AttCfm {
     ConfirmIndication,
 }
 
 // ATT Client PDU
-#[derive(Drop)]
+#[derive(Clone, Copy)]
 pub enum AttClient {
     Request(AttReq),
     Command(AttCmd),
@@ -143,7 +145,7 @@ pub enum AttClient {
 }
 
 // The format of Find Information Response: the UUIDs that its pairs hold.
-#[derive(Drop)]
+#[derive(Clone, Copy)]
 pub enum FindInformationUuidFormat {
     Uuid16,
     Uuid128,
@@ -173,7 +175,7 @@ impl FindInformationUuidFormat {
 }
 
 // ATT Response PDU. In the place of an iterator stand the bytes of its items.
-#[derive(Drop)]
+#[derive(Clone, Copy)]
 pub enum AttRsp {
     ExchangeMtu {
         mtu: u16,
@@ -208,41 +210,41 @@ pub enum AttRsp {
 }
 
 // ATT Unsolicited PDU
-#[derive(Drop)]
+#[derive(Clone, Copy)]
 pub enum AttUns {
     Notify { handle: u16, data: Span },
     Indicate { handle: u16, data: Span },
 }
 
 // ATT Server PDU
-#[derive(Drop)]
+#[derive(Clone, Copy)]
 pub enum AttServer {
     Response(AttRsp),
     Unsolicited(AttUns),
 }
 
 // ATT Protocol Data Unit
-#[derive(Drop)]
+#[derive(Clone, Copy)]
 pub enum Att {
     Client(AttClient),
     Server(AttServer),
 }
 
-#[derive(Drop)]
+#[derive(Clone, Copy)]
 pub enum Parsed {
     Packet(Att),
     Refused(Error),
 }
 
 // What bytes decode to. Beside a packet without a UUID, and beside a refusal, stands the 16-bit 0000.
-#[derive(Drop)]
+#[derive(Clone, Copy)]
 pub struct Decoded {
     pub answer: Parsed,
     pub uuid: Uuid,
 }
 
 // The length of a packet's encoding.
-#[derive(Drop)]
+#[derive(Clone, Copy)]
 pub enum Length {
     Bytes(usize),
     Refused(Error),

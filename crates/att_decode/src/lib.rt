@@ -4,6 +4,8 @@
 // to the reader of that opcode (the crate att_rows). A payload too short for its fixed fields is refused.
 //
 // A port of src/att.rs of trouble-host 0.8.0, which was changed: see NOTICE.
+#![tactic(auto)]
+
 ghost use Rattle.std.specs.Prelude.{◌≡◌, [], ◌∷◌};
 ghost use Rattle.att.specs.Wire.{Rest, AUuid, Items, first, by_format};
 ghost use Rattle.ble_uuid.specs.Uuids.{uuid_of};

@@ -2,6 +2,8 @@
 // follows its fixed fields, so that the size is the length of what is written.
 //
 // A port of src/att.rs of trouble-host 0.8.0, which was changed: see NOTICE.
+#![tactic(auto)]
+
 ghost use Rattle.std.specs.Prelude.{◌≡◌, ◌++◌, ◌+◌, ◌≤◌, length};
 ghost use Rattle.codec.specs.Buffer.{laid, laid_at, written};
 ghost use Rattle.att.specs.Typed.{encoded, length_of, written_of, laid_of};
@@ -10,11 +12,11 @@ ghost use Rattle.att_encode.specs.Place.{place_of, items_place, fits, uuid_place
 
 use att::{Att, Length};
 use att_layout::{Fields, Follows, Layout};
-use codec::{Error, Written};
 use ble_uuid::Uuid;
+use codec::{Error, Written};
 
 // Where the bytes behind the fixed fields are to be found.
-#[derive(Drop)]
+#[derive(Clone, Copy)]
 enum Place {
     Received { at: usize, len: usize },
     OnAir { len: usize },

@@ -1,12 +1,14 @@
 // The error codes of att.rs (Core Specification, Volume 3 Part F, 3.4.1.1, and its Supplement, Part B).
 //
 // A port of src/att.rs of trouble-host 0.8.0, which was changed: see NOTICE.
+#![tactic(auto)]
+
 ghost use Rattle.std.specs.Prelude.{◌≡◌};
 ghost use Rattle.att_error.specs.Texts.{codes};
 
 use codec::Error;
 
-#[derive(Drop)]
+#[derive(Clone, Copy)]
 pub struct AttErrorCode {
     pub value: u8,
 }

@@ -2,6 +2,8 @@
 // position counts from the first byte of the items and is 0 at first; an item tells the position behind it.
 //
 // A port of src/att.rs of trouble-host 0.8.0, which was changed: see NOTICE.
+#![tactic(auto)]
+
 ghost use Rattle.std.specs.Prelude.{◌≡◌, ◌||◌, ◌+◌, ◌^◌, ◌≤◌, ◌<◌, eqb, length};
 ghost use Rattle.att.specs.Typed.{show_att};
 ghost use Rattle.att_items.specs.Iterators.{each_by, fitted, of_layout, item_shown, pair_at, pair_of, rest_of};
@@ -12,37 +14,37 @@ use att::{
     ATT_READ_BY_TYPE_RSP, Att, Length, Span,
 };
 use att_layout::{Follows, Layout};
-use cursor::{Moved, ReadU16};
 use ble_uuid::Uuid;
+use cursor::{Moved, ReadU16};
 
 // The bytes of an item in the received bytes, and the position behind it; or the end.
-#[derive(Drop)]
+#[derive(Clone, Copy)]
 pub enum Step {
     Item { at: usize, len: usize, next: usize },
     End,
 }
 
-#[derive(Drop)]
+#[derive(Clone, Copy)]
 pub enum HandlePair {
     Item { handle: u16, end: u16, next: usize },
     End,
 }
 
-#[derive(Drop)]
+#[derive(Clone, Copy)]
 pub enum HandleUuid {
     Item { handle: u16, next: usize },
     End,
 }
 
 // The UUID of an item stands beside it; beside the end stands the 16-bit 0000.
-#[derive(Drop)]
+#[derive(Clone, Copy)]
 pub struct Information {
     pub answer: HandleUuid,
     pub uuid: Uuid,
 }
 
 // The rest of an item is a range of the received bytes.
-#[derive(Drop)]
+#[derive(Clone, Copy)]
 pub enum HandleValue {
     Item {
         handle: u16,

@@ -2,6 +2,8 @@
 // document 01's table; what follows them stays where it is and is told by its kind and its range.
 //
 // A port of src/att.rs of trouble-host 0.8.0, which was changed: see NOTICE.
+#![tactic(auto)]
+
 ghost use Rattle.std.specs.Prelude.{◌≡◌, ◌∷◌, []};
 ghost use Rattle.att.specs.Typed.{span, show_att, show_client, show_req, show_cfm, show_server, show_rsp, show_uns};
 ghost use Rattle.att_layout.specs.Layout.{plain, fixed_of, followed_by, layout_of};
@@ -20,7 +22,7 @@ use att_strict::pair_len;
 
 // What follows the fixed fields: nothing, the whole range, the whole items of the range, or the UUID
 // beside the packet.
-#[derive(Drop)]
+#[derive(Clone, Copy)]
 pub enum Follows {
     Nothing,
     Data,
@@ -29,7 +31,7 @@ pub enum Follows {
 }
 
 // The fixed fields, by their widths.
-#[derive(Drop)]
+#[derive(Clone, Copy)]
 pub enum Fields {
     Bare,
     Byte(u8),
@@ -40,7 +42,7 @@ pub enum Fields {
 }
 
 // The opcode and the fixed fields, which are `len` bytes together.
-#[derive(Drop)]
+#[derive(Clone, Copy)]
 pub struct Layout {
     pub opcode: u8,
     pub fields: Fields,

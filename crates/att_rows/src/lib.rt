@@ -3,6 +3,8 @@
 // end read as 0: the dispatcher refuses a payload that is too short for its fixed fields.
 //
 // A port of src/att.rs of trouble-host 0.8.0, which was changed: see NOTICE.
+#![tactic(auto)]
+
 ghost use Rattle.std.specs.Prelude.{◌≡◌};
 ghost use Rattle.primitives.specs.Numbers.{number_at};
 ghost use Rattle.att.specs.Formats.{format_of};

@@ -1,4 +1,6 @@
 // The strict test: whether received bytes are a packet in the Core form, by lengths alone.
+#![tactic(auto)]
+
 ghost use Rattle.std.specs.Prelude.{◌≡◌, [], ◌∷◌, ◌≤◌};
 ghost use Rattle.primitives.specs.Numbers.{number_at};
 ghost use Rattle.att.specs.Wire.{Ends, Rest, Handles, AUuid, Items, first, by_format, shape_of, shape_strict};

@@ -1,6 +1,8 @@
 // The text of an error code: att.rs's `Display`, written to a lent buffer.
 //
 // A port of src/att.rs of trouble-host 0.8.0, which was changed: see NOTICE.
+#![tactic(auto)]
+
 ghost use Rattle.std.specs.Prelude.{◌≡◌, take};
 ghost use Rattle.codec.specs.Buffer.{laid, written};
 ghost use Rattle.codec.specs.Cases.{None};

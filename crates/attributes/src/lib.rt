@@ -1,10 +1,12 @@
 // Document 01, "Table, link and the till's own stores": the types of the table. The book of the table is
 // in specs/, the laws behind it in proofs/.
-use codec::Refusal;
+#![tactic(auto)]
+
 use ble_uuid::Uuid;
+use codec::Refusal;
 
 // Where a record's value stands: in the fixed bytes, or in a slot of the live bytes.
-#[derive(Drop)]
+#[derive(Clone, Copy)]
 pub enum Place {
     Fixed {
         at: usize,
@@ -18,7 +20,7 @@ pub enum Place {
 }
 
 // An attribute. `kind` is its type; the last two marks say that reading, or writing, needs encryption.
-#[derive(Drop)]
+#[derive(Clone, Copy)]
 pub struct Record {
     pub handle: u16,
     pub kind: Uuid,
@@ -30,7 +32,7 @@ pub struct Record {
 }
 
 // The first `count` records, and the lengths of the two areas that the table was built for.
-#[derive(Drop)]
+#[derive(Clone, Copy)]
 pub struct Table {
     pub records: [Record; 64],
     pub count: usize,
@@ -39,14 +41,14 @@ pub struct Table {
 }
 
 // What an addition asks for: a part of the fixed bytes, or a live slot.
-#[derive(Drop)]
+#[derive(Clone, Copy)]
 pub enum Room {
     Fixed { at: usize, len: usize },
     Live { capacity: usize },
 }
 
 // An attribute to be added.
-#[derive(Drop)]
+#[derive(Clone, Copy)]
 pub struct Addition {
     pub handle: u16,
     pub kind: Uuid,
@@ -57,21 +59,21 @@ pub struct Addition {
     pub room: Room,
 }
 
-#[derive(Drop)]
+#[derive(Clone, Copy)]
 pub enum Outcome {
     Accepted,
     Refused(Refusal),
 }
 
 // A table after a call, beside what the call answers: an enum cannot hold an array.
-#[derive(Drop)]
+#[derive(Clone, Copy)]
 pub struct Changed {
     pub outcome: Outcome,
     pub table: Table,
 }
 
 // The number of a record among those of a table, from 0 on.
-#[derive(Drop)]
+#[derive(Clone, Copy)]
 pub enum Sought {
     At(usize),
     Missing,

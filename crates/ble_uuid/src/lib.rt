@@ -2,6 +2,8 @@
 // form and sixteen bytes; the form's own bytes stand first, and what stands behind them has no meaning.
 //
 // A port of src/types/uuid.rs of trouble-host 0.8.0, which was changed: see NOTICE.
+#![tactic(auto)]
+
 ghost use Rattle.std.specs.Prelude.{◌≡◌, ◌≤◌, ◌++◌, length, take};
 ghost use Rattle.ble_uuid.specs.Uuids.{width_of, own, on_air, equal_types, equal, padded, base, att_type, att_bytes};
 ghost use Rattle.ble_uuid.specs.Uuids.{raw_of, short_of, formed, short, wide, long, no_uuid, sliced};
@@ -9,34 +11,34 @@ ghost use Rattle.ble_uuid.specs.Uuids.{raw_of, short_of, formed, short, wide, lo
 use codec::Error;
 use primitives::ReadU16;
 
-#[derive(Drop)]
+#[derive(Clone, Copy)]
 pub enum Form {
     Uuid16,
     Uuid32,
     Uuid128,
 }
 
-#[derive(Drop)]
+#[derive(Clone, Copy)]
 pub struct Uuid {
     pub form: Form,
     pub bytes: [u8; 16],
 }
 
 // Bytes handed back by value: the first `len` count, and 00 stands behind them.
-#[derive(Drop)]
+#[derive(Clone, Copy)]
 pub struct Raw {
     pub bytes: [u8; 16],
     pub len: usize,
 }
 
-#[derive(Drop)]
+#[derive(Clone, Copy)]
 pub enum Checked {
     Accepted,
     Refused(Error),
 }
 
 // What some bytes are as a UUID. Beside a refusal stands the 16-bit 0000.
-#[derive(Drop)]
+#[derive(Clone, Copy)]
 pub struct Sliced {
     pub answer: Checked,
     pub uuid: Uuid,
@@ -191,7 +193,7 @@ pub fn width(form: Form) -> usize
 pub fn equal_types(a: &[u8], b: &[u8]) -> bool
     ensures { result ≡ equal_types a.now b.now }
 {
-    check::same(a, b)
+    a == b
 }
 
 fn accepted(form: Form, own: &[u8]) -> Sliced

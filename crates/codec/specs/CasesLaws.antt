@@ -2,6 +2,7 @@
 -- `same` exactly when they are equal. A case that cannot be.
 use Rattle.std.specs.Prelude.{ℕ, ◌≡◌, refl, Bool, true, false, ◌&&◌, List, [], ◌∷◌, eqb}
 use Rattle.std.proofs.Common.{sym, ap, ◌∙◌, arith, eq-eqb, ne_eqb, eqb-true}
+use lib.Pointwise.{pointwise}
 use Rattle.codec.specs.Cases.{lookup, None, same}
 
 -- A case that cannot be: what is known there makes 0 equal 1, which `cc` shows of two constructors taken for equal.
@@ -44,6 +45,13 @@ same_equal (x ∷ xs) (y ∷ ys) e =
     let h : x ≡ y = eqb-true x y p.0 in
     let t : xs ≡ ys = same_equal xs ys p.1 in
     cc
+
+-- Rust's `==` of two slices of bytes is the test
+pub same_eq : (a b : List ℕ) → pointwise eqb a b ≡ same a b
+same_eq [] [] = refl
+same_eq [] (y ∷ ys) = refl
+same_eq (x ∷ xs) [] = refl
+same_eq (x ∷ xs) (y ∷ ys) = rw (same_eq xs ys)
 
 -- a Bool that is true exactly when the lists are equal is the test
 pub same_is : (r : Bool) (a b : List ℕ) → (r ≡ true → a ≡ b) × (a ≡ b → r ≡ true) → r ≡ same a b

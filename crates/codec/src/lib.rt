@@ -2,18 +2,20 @@
 // into a lent buffer answers.
 //
 // A port of src/codec.rs of trouble-host 0.8.0, which was changed: see NOTICE.
+#![tactic(auto)]
+
 ghost use Rattle.std.specs.Prelude.{◌≡◌};
 ghost use Rattle.codec.specs.Buffer.{laid, written};
 ghost use Rattle.codec.specs.Refusals.{refusal_number, name_of, refusal_of};
 
-#[derive(Drop)]
+#[derive(Clone, Copy)]
 pub enum Error {
     InsufficientSpace,
     InvalidValue,
 }
 
 // Document 01, "Refusal numbers", in its order.
-#[derive(Drop)]
+#[derive(Clone, Copy)]
 pub enum Refusal {
     InsufficientSpace,
     InvalidValue,
@@ -30,7 +32,7 @@ pub enum Refusal {
 }
 
 // What writing into a lent buffer answers: how many bytes were written, or why none were.
-#[derive(Drop)]
+#[derive(Clone, Copy)]
 pub enum Written {
     Done(usize),
     Refused(Error),
@@ -73,7 +75,8 @@ pub fn write_bytes(src: &[u8], dest: &mut [u8]) -> Written
     if dest.len() < src.len() {
         return Written::Refused(Error::InsufficientSpace);
     }
-    Written::Done(bytes::copy(src, dest))
+    dest[..src.len()].copy_from_slice(src);
+    Written::Done(src.len())
 }
 
 // A refusal's name, as document 01's table has it.

@@ -4,6 +4,8 @@
 // (for slice, `slice_answer`) says which it was.
 //
 // A port of src/cursor.rs of trouble-host 0.8.0, which was changed: see NOTICE.
+#![tactic(auto)]
+
 ghost use Rattle.std.specs.Prelude.{◌≡◌, length};
 ghost use Rattle.codec.specs.declared.Error.TheVariants.{InvalidValue};
 ghost use Rattle.cursor.specs.Position.{left, moving, parting};
@@ -12,33 +14,33 @@ ghost use Rattle.cursor.specs.Reading.{read_at, rest, sliced};
 use codec::Error;
 
 // What a call that moves the position answers. On a refusal the caller's own position stands.
-#[derive(Drop)]
+#[derive(Clone, Copy)]
 pub enum Moved {
     To(usize),
     Refused(Error),
 }
 
 // Whether a part was given, where the part itself may be empty.
-#[derive(Drop)]
+#[derive(Clone, Copy)]
 pub enum Part {
     Given,
     Refused(Error),
 }
 
 // What a read answers: the value, and the position behind it.
-#[derive(Drop)]
+#[derive(Clone, Copy)]
 pub enum ReadU8 {
     Value(u8, usize),
     Refused(Error),
 }
 
-#[derive(Drop)]
+#[derive(Clone, Copy)]
 pub enum ReadU16 {
     Value(u16, usize),
     Refused(Error),
 }
 
-#[derive(Drop)]
+#[derive(Clone, Copy)]
 pub enum ReadU32 {
     Value(u32, usize),
     Refused(Error),

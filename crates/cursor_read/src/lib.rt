@@ -3,6 +3,8 @@
 // the next position, with which `moved` makes the next cursor; on a refusal the caller's own cursor stands.
 //
 // A port of src/cursor.rs of trouble-host 0.8.0, which was changed: see NOTICE.
+#![tactic(auto)]
+
 ghost use Rattle.std.specs.Prelude.{◌≡◌, length};
 ghost use Rattle.codec.specs.declared.Error.TheVariants.{InvalidValue};
 ghost use Rattle.cursor.specs.Position.{left, moving};
@@ -10,7 +12,7 @@ ghost use Rattle.cursor.specs.Reading.{read_at, rest, sliced};
 
 use cursor::{Moved, ReadU8, ReadU16, ReadU32};
 
-#[derive(Drop)]
+#[derive(Clone, Copy)]
 pub struct ReadCursor<'d> {
     pub pos: usize,
     pub data: &'d [u8],

@@ -2,6 +2,8 @@
 // Where a part is the answer, a refusal lends the empty part, and `cursor::given` says which it was.
 //
 // A port of src/cursor.rs of trouble-host 0.8.0, which was changed: see NOTICE.
+#![tactic(auto)]
+
 ghost use Rattle.std.specs.Prelude.{◌≡◌, length};
 ghost use Rattle.codec.specs.Buffer.{laid_at};
 ghost use Rattle.primitives.specs.Numbers.{bytes_of};

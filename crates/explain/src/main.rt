@@ -1,5 +1,7 @@
 // Packets in words: each line of standard input is a packet in HEX, and its answer is a line that names
 // the packet and its fields, its size, and whether it is strict.
+#![tactic(auto)]
+
 use text_hex::Hex;
 use text_lines::Seen;
 

@@ -2,14 +2,16 @@
 //
 // A line is built at positions of a lent buffer: each function answers the position behind what it
 // wrote. The texts of each packet are in specs/, as the programs' page has them.
+#![tactic(auto)]
+
 ghost use Rattle.std.specs.Prelude.{◌≡◌};
 ghost use Rattle.text_put.specs.Put.{behind, holding};
 ghost use Rattle.explain_client.specs.Clients.{range_texts, sought_texts, request_texts, command_texts, confirmation_texts, client_texts};
 
 use att::{AttCfm, AttClient, AttCmd, AttReq, Span};
+use ble_uuid::Uuid;
 use explain_field::{part, two, value};
 use text_put::{byte, kind, word};
-use ble_uuid::Uuid;
 
 // The first and the last handle of a range, as the two finds name them.
 fn range(out: &mut [u8], pos: usize, name: &[u8], start: u16, end: u16) -> usize

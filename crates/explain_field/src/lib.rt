@@ -2,6 +2,8 @@
 //
 // A line is built at positions of a lent buffer: each function answers the position behind what it
 // wrote. The texts are in specs/, as the programs' page has them.
+#![tactic(auto)]
+
 ghost use Rattle.std.specs.Prelude.{◌≡◌};
 ghost use Rattle.text_put.specs.Put.{behind, holding};
 ghost use Rattle.explain_field.specs.Fields.{fielded, pair_texts, value_texts};

@@ -2,6 +2,8 @@
 //
 // A line is built at positions of a lent buffer: each function answers the position behind what it
 // wrote. The texts of the items are in specs/, as the programs' page has them.
+#![tactic(auto)]
+
 ghost use Rattle.std.specs.Prelude.{◌≡◌};
 ghost use Rattle.text_put.specs.Put.{behind, holding};
 ghost use Rattle.explain_items.specs.Items.{informations, ranges, values, kind_of, shown_at, line_at, items_texts};
@@ -11,7 +13,7 @@ use att_items::{HandlePair, HandleUuid, HandleValue};
 
 // What an item was written as: the position behind it on the line, and the position of the next item;
 // or that there is none.
-#[derive(Drop)]
+#[derive(Clone, Copy)]
 struct Shown {
     at: usize,
     next: usize,

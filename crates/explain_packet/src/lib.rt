@@ -2,6 +2,8 @@
 //
 // A line is built at positions of a lent buffer: each function answers the position behind what it
 // wrote. The texts of the line are in specs/, as the programs' page has them.
+#![tactic(auto)]
+
 ghost use Rattle.std.specs.Prelude.{◌≡◌};
 ghost use Rattle.codec.specs.Refusals.{refusal_of};
 ghost use Rattle.att.specs.Typed.{encoded};
@@ -9,8 +11,8 @@ ghost use Rattle.text_put.specs.Put.{behind, holding, refusal};
 ghost use Rattle.explain_packet.specs.Packets.{field_texts, encodes_texts, packet_texts, line_texts};
 
 use att::{Att, Length, Parsed};
-use codec::{Error, Written};
 use ble_uuid::Uuid;
+use codec::{Error, Written};
 
 // SIDE KIND NAME FIELDS.
 fn fields(att: Att, uuid: Uuid, src: &[u8], out: &mut [u8]) -> usize

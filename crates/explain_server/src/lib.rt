@@ -2,6 +2,8 @@
 //
 // A line is built at positions of a lent buffer: each function answers the position behind what it
 // wrote. The texts of each packet are in specs/, as the programs' page has them.
+#![tactic(auto)]
+
 ghost use Rattle.std.specs.Prelude.{◌≡◌};
 ghost use Rattle.text_put.specs.Put.{behind, holding};
 ghost use Rattle.explain_server.specs.Servers.{meaning_texts, error_texts, response_texts, unsolicited_texts, server_texts, format_texts};

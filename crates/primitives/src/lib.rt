@@ -1,6 +1,8 @@
 // types/primitives.rs: u8, u16 and u32, read from and written to the start of a slice, little-endian.
 //
 // A port of src/types/primitives.rs of trouble-host 0.8.0, which was changed: see NOTICE.
+#![tactic(auto)]
+
 ghost use Rattle.std.specs.Prelude.{◌≡◌, ◌+◌, ◌*◌};
 ghost use Rattle.codec.specs.Buffer.{laid, written};
 ghost use Rattle.codec.specs.declared.Error.TheVariants.{InvalidValue};
@@ -8,19 +10,19 @@ ghost use Rattle.primitives.specs.Numbers.{bytes_of, number_at, reading};
 
 use codec::{Error, Written};
 
-#[derive(Drop)]
+#[derive(Clone, Copy)]
 pub enum ReadU8 {
     Value(u8),
     Refused(Error),
 }
 
-#[derive(Drop)]
+#[derive(Clone, Copy)]
 pub enum ReadU16 {
     Value(u16),
     Refused(Error),
 }
 
-#[derive(Drop)]
+#[derive(Clone, Copy)]
 pub enum ReadU32 {
     Value(u32),
     Refused(Error),

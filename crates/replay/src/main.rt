@@ -1,19 +1,21 @@
 // The answers of the port, for the comparison with the Rust: each line of standard input is a request,
 // `? REQUEST`, which is answered, or `TAG REQUEST = REPLY`, whose answer is held to REPLY. oracle/README.md
 // has the requests and the replies.
+#![tactic(auto)]
+
 ghost use Rattle.std.specs.Prelude.{◌≤◌, length};
 
 use text_console::Input;
 use text_lines::Seen;
 
 // The lines with a REPLY so far, and how many of them were answered otherwise.
-#[derive(Drop)]
+#[derive(Clone, Copy)]
 struct Tally {
     lines: u64,
     different: u64,
 }
 
-#[derive(Drop)]
+#[derive(Clone, Copy)]
 struct Turned {
     input: Input,
     tally: Tally,
@@ -94,7 +96,7 @@ fn compare(line: &[u8], number: u64, tally: Tally) -> Tally {
     let n = reply(line, &mut out);
     let own = text_put::first(&out, n);
     let lines = counted(tally.lines);
-    if check::same(own, wanted(line)) {
+    if own == wanted(line) {
         return Tally {
             lines,
             different: tally.different,

@@ -3,6 +3,8 @@
 //
 // The contracts here are those of any library. The crates above put replies together: where specs/ has no
 // texts of a reply, it is proved safe and ending only, and all replies are held to the Rust's by oracle/.
+#![tactic(auto)]
+
 ghost use Rattle.std.specs.Prelude.{◌≡◌, length};
 ghost use Rattle.primitives.specs.Numbers.{number_at};
 ghost use Rattle.cursor.specs.Reading.{rest};
@@ -32,7 +34,7 @@ pub fn little(word: &[u8]) -> [u8; 4]
     let mut b = [0u8; 4];
     let n = bytes(word, &mut b);
     if n <= 4 {
-        bytes::reverse(&mut b, 0, n);
+        b[..n].reverse();
     }
     b
 }

@@ -2,6 +2,8 @@
 //
 // The reply on received bytes is the line of `explain`, and behind it ROOMS and the places of the packet's
 // parts. Proved safe and ending; that a reply is right is shown by oracle/ and by the stored run of replay.
+#![tactic(auto)]
+
 ghost use Rattle.std.specs.Prelude.{◌≡◌, length};
 ghost use Rattle.text_put.specs.Put.{behind, holding};
 ghost use Rattle.replay_packets.specs.Places.{place_texts};
@@ -9,10 +11,10 @@ ghost use Rattle.replay_packets.specs.Places.{place_texts};
 use att::{Att, AttClient, AttReq, Length, Parsed, Span};
 use att_items::HandleValue;
 use att_layout::Follows;
+use ble_uuid::Uuid;
 use codec::{Error, Written};
 use replay_rooms::Asked;
 use text_hex::Handle;
-use ble_uuid::Uuid;
 
 // ROOMS, of what the line shows that encoding writes: the packet itself where it is strict.
 fn rooms(att: Att, u: Uuid, src: &[u8], out: &mut [u8], pos: usize) -> usize {
@@ -41,7 +43,7 @@ fn place(out: &mut [u8], pos: usize, src: &[u8], d: Span) -> usize
 
 // What an item was written as: the position behind it on the line, and the position of the next item;
 // or that there is none.
-#[derive(Drop)]
+#[derive(Clone, Copy)]
 struct Shown {
     at: usize,
     next: usize,

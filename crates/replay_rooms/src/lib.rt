@@ -2,16 +2,18 @@
 //
 // A call that a room is too short for has to refuse it and write nothing, and every other has to write all
 // of its bytes and none behind them.
+#![tactic(auto)]
+
 ghost use Rattle.std.specs.Prelude.{◌≡◌, length, ◌≤◌};
 ghost use Rattle.text_put.specs.Put.{behind, holding};
 ghost use Rattle.replay_rooms.specs.Rooms.{all_of, untouched_of, wrote_of, rooms_texts};
 
 use att::Att;
-use codec::Written;
 use ble_uuid::Uuid;
+use codec::Written;
 
 // Which call: the text of an error code, or the encoding of a packet.
-#[derive(Drop)]
+#[derive(Clone, Copy)]
 pub enum Asked {
     Text(u8),
     Packet(Att),
@@ -62,7 +64,7 @@ fn written(w: Written, full: &[u8], out: &[u8], v: u8) -> bool
             if n != full.len() {
                 return false;
             }
-            if !check::same(text_put::first(out, n), full) {
+            if text_put::first(out, n) != full {
                 return false;
             }
             all(cursor::remaining(n, out), v)

@@ -2,20 +2,30 @@
 //
 // The texts are in specs/, but for T and E, of which the line's length alone is proved; that they are the
 // Rust's is shown by oracle/ and by the stored run of replay.
+#![tactic(auto)]
+
 ghost use Rattle.std.specs.Prelude.{◌≡◌, length};
 ghost use Rattle.text_put.specs.Put.{behind, holding};
 ghost use Rattle.ble_uuid.specs.Uuids.{short_of};
 ghost use Rattle.replay_values.specs.Values.{byte_texts, word_texts, double_texts, decoded_line};
 ghost use Rattle.replay_values.specs.Values.{bits_of, raw_said, short_said, uuid_texts, uuid_line, same_line};
 
+use ble_uuid::{Checked, Form, Raw, Uuid};
 use codec::Written;
 use primitives::{ReadU8, ReadU16, ReadU32};
 use replay_rooms::Asked;
-use ble_uuid::{Checked, Form, Raw, Uuid};
 
 fn text_reply(code: u8, full: &[u8], out: &mut [u8]) -> usize {
     let at = text_print::decimal(out, 0, full.len() as u64);
-    let at = replay_rooms::tried(Asked::Text(code), ble_uuid::no_uuid(), b"", full, out, at, b" ");
+    let at = replay_rooms::tried(
+        Asked::Text(code),
+        ble_uuid::no_uuid(),
+        b"",
+        full,
+        out,
+        at,
+        b" ",
+    );
     let at = text_print::text(out, at, b" ");
     text_print::text(out, at, full)
 }

@@ -2,6 +2,8 @@
 //
 // Proved safe and ending, and where specs/ has the text of a word, that it is written; that a reply is
 // right is shown by oracle/ and by the stored run of replay.
+#![tactic(auto)]
+
 ghost use Rattle.std.specs.Prelude.{◌≡◌, length};
 ghost use Rattle.text_hex.specs.Hex.{decimal_of};
 ghost use Rattle.text_put.specs.Put.{behind, holding};
@@ -12,7 +14,7 @@ use cursor::{Moved, Part, ReadU8, ReadU16, ReadU32};
 use text_hex::Number;
 
 // Where the cursor stands after a step, and the position behind the step's answer on the line.
-#[derive(Drop)]
+#[derive(Clone, Copy)]
 struct Stood {
     pos: usize,
     at: usize,

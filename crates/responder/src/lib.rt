@@ -1,5 +1,7 @@
 // Document 01, "How a packet is served": the responder. A packet is answered, and what it asks for takes
 // place, here and nowhere else.
+#![tactic(auto)]
+
 ghost use Rattle.std.specs.Prelude.{◌≡◌, length};
 ghost use Rattle.answers.specs.Contract.{state_of, turn_of, out_after, served_as};
 ghost use Rattle.serve_change.specs.Changes.{meant_by};

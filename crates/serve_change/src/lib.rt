@@ -1,6 +1,8 @@
 // Document 01, "How a packet is served": the packets that change something, 02, 12 and 52. What changes
 // is handed back beside the answer, so that it takes place in one place, and only where the answer went
 // out as it was meant.
+#![tactic(auto)]
+
 ghost use Rattle.std.specs.Prelude.{min, max, ◌≡◌, length};
 ghost use Rattle.att.specs.Typed.{part_of};
 ghost use Rattle.answers.specs.Replies as book;
@@ -17,7 +19,7 @@ use serve_tell::Wrote;
 
 // What a packet does beside its answer: nothing, a store of the packet's bytes in this range, or the end
 // of an exchange.
-#[derive(Drop)]
+#[derive(Clone, Copy)]
 pub enum Pending {
     Nothing,
     Stores { handle: u16, data: Span },
@@ -25,7 +27,7 @@ pub enum Pending {
 }
 
 // How many bytes went out, and what is to take place.
-#[derive(Drop)]
+#[derive(Clone, Copy)]
 pub struct Said {
     pub len: usize,
     pub effect: Pending,

@@ -1,5 +1,7 @@
 // Document 01, "How a packet is served": the list that a search makes, an item at a time. The items stand
 // one after the other from the start of a lent area on.
+#![tactic(auto)]
+
 ghost use Rattle.std.specs.Prelude.{◌≡◌, ◌++◌, ◌+◌, ◌≤◌, length};
 ghost use Rattle.codec.specs.Buffer.{over, laid_at};
 ghost use Rattle.primitives.specs.Numbers.{bytes_of};
@@ -7,7 +9,7 @@ ghost use Rattle.serve_collect.specs.Collect.{head_of, fit_at, spot_for, stopped
 
 use att_error::AttErrorCode;
 
-#[derive(Drop)]
+#[derive(Clone, Copy)]
 pub enum Gathered {
     None,
     Failed { handle: u16, code: AttErrorCode },
@@ -15,7 +17,7 @@ pub enum Gathered {
 }
 
 // How far a search is.
-#[derive(Drop)]
+#[derive(Clone, Copy)]
 pub enum Progress {
     Seeking,
     Taking { item_len: u8, used: usize },
@@ -23,13 +25,13 @@ pub enum Progress {
 }
 
 // An item's first bytes: a handle, or a handle and the end of its group.
-#[derive(Drop)]
+#[derive(Clone, Copy)]
 pub enum Head {
     Handle(u16),
     Range(u16, u16),
 }
 
-#[derive(Drop)]
+#[derive(Clone, Copy)]
 enum Spot {
     At(usize),
     Nowhere,

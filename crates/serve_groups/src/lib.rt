@@ -1,4 +1,6 @@
 // Document 01, "How a packet is served": the types that open a group, and where a group ends.
+#![tactic(auto)]
+
 ghost use Rattle.std.specs.Prelude.{◌≡◌, map, ◌≤◌, take};
 ghost use Rattle.ble_uuid.specs.Uuids.{own};
 ghost use Rattle.answers.specs.Replies.{groups, group_end};

@@ -1,4 +1,6 @@
 // Document 01, "Table, link and the till's own stores": a link as it is at first, and when a link is sound.
+#![tactic(auto)]
+
 ghost use Rattle.std.specs.Prelude.{◌≡◌};
 ghost use Rattle.answers.specs.Replies.{mtu_ok, link_ok};
 ghost use Rattle.answers.specs.Serve.{first_link};

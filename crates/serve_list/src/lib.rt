@@ -1,5 +1,7 @@
 // Document 01, "How a packet is served", 04, 06, 08 and 10: the list that a search found, as a typed
 // answer, or the error in its place.
+#![tactic(auto)]
+
 ghost use Rattle.std.specs.Prelude.{◌≡◌, [], length};
 ghost use Rattle.primitives.specs.Numbers.{bytes_of};
 ghost use Rattle.ble_uuid.specs.Uuids.{on_air};
@@ -15,10 +17,10 @@ use att::{
 };
 use att_error::AttErrorCode;
 use attributes::Table;
+use ble_uuid::Uuid;
 use serve_collect::Gathered;
 use serve_search::{Ask, Query};
 use serve_tell::Wrote;
-use ble_uuid::Uuid;
 
 // The answer to 04.
 pub fn find_information<'a>(

@@ -1,5 +1,7 @@
 // Document 01, "How a packet is served": what a record gives to 06, 08 and 10. It is decided from its type,
 // its marks and the link; 06 alone looks at the value, where the link may read it.
+#![tactic(auto)]
+
 ghost use Rattle.std.specs.Prelude.{◌≡◌};
 ghost use Rattle.answers.specs.Replies.{end_of};
 ghost use Rattle.serve_groups.specs.Groups.{outlines_of};
@@ -12,7 +14,7 @@ use serve_collect::Head;
 use serve_record::Permission;
 
 // Nothing, an item with this head, or the code that reading is refused with.
-#[derive(Drop)]
+#[derive(Clone, Copy)]
 pub enum Offer {
     Skip,
     Take(Head),

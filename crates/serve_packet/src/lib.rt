@@ -1,6 +1,8 @@
 // Document 01, "How a packet is served": what a packet is answered with, and what it is to change. It
 // tests table, link, output and packet; the packet is decoded, and its answer told into the output. What
 // it asks for is handed back beside the answer: nothing changes here.
+#![tactic(auto)]
+
 ghost use Rattle.std.specs.Prelude.{◌≤◌, ◌<◌, true, ◌≡◌, length};
 ghost use Rattle.att.specs.Typed.{show_att, meaning_of};
 ghost use Rattle.att.specs.Wire.{first};
@@ -21,12 +23,12 @@ use att::{
 };
 use att_error::AttErrorCode;
 use attributes::Table;
+use ble_uuid::Uuid;
 use codec::Refusal;
 use serve_change::{Pending, Said};
-use ble_uuid::Uuid;
 
 // What a packet is answered with, and what it is to change.
-#[derive(Drop)]
+#[derive(Clone, Copy)]
 pub struct Replied {
     pub answer: Answer,
     pub effect: Pending,

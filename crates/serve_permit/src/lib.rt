@@ -1,5 +1,7 @@
 // Requests about one attribute: what a link may do at a handle, decided from marks and link alone, before
 // any value or length is looked at.
+#![tactic(auto)]
+
 ghost use Rattle.std.specs.Prelude.{◌≡◌};
 ghost use Rattle.attributes.specs.Records.{entries, slot_of, slot_size};
 ghost use Rattle.serve_permit.specs.Permit.{read_at, write_at, writable_by, store_at};
@@ -10,7 +12,7 @@ use attributes::{Place, Record, Sought, Table};
 use serve_record::Permission;
 
 // Whether a value may be written, and how many bytes of it there may be, or the code that it is refused with.
-#[derive(Drop)]
+#[derive(Clone, Copy)]
 pub enum Writable {
     UpTo(usize),
     Denied(AttErrorCode),

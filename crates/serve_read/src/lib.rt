@@ -2,6 +2,8 @@
 // offset on, at most MTU - 1 bytes of it.
 //
 // The permission is asked first: a value or its length is looked at only where the link may read it.
+#![tactic(auto)]
+
 ghost use Rattle.std.specs.Prelude.{◌-◌, min, ◌≡◌, length};
 ghost use Rattle.answers.specs.Contract.{views_for};
 ghost use Rattle.answers.specs.Replies.{read_reply, blob_reply};

@@ -1,5 +1,7 @@
 // What code reads of a record: its type, whether a link may read its value, and the value. The
 // permission is decided from the marks and the link alone, before any value or length is looked at.
+#![tactic(auto)]
+
 ghost use Rattle.std.specs.Prelude.{◌≡◌, take, drop};
 ghost use Rattle.codec.specs.Cases.{same};
 ghost use Rattle.ble_uuid.specs.Uuids.{own, equal_types};
@@ -9,7 +11,7 @@ ghost use Rattle.serve_record.specs.Permissions.{permission_of};
 use att_error::AttErrorCode;
 use attributes::{Place, Record};
 
-#[derive(Drop)]
+#[derive(Clone, Copy)]
 pub enum Permission {
     Allowed,
     Denied(AttErrorCode),
@@ -46,5 +48,5 @@ pub fn holds<'a>(place: Place, fixed: &'a [u8], live: &'a [u8], wanted: &[u8]) -
     ensures { result ≡ same (value_of place fixed.now live.now) wanted.now }
 {
     let held = table_records::value(place, fixed, live);
-    check::same(held, wanted)
+    held == wanted
 }

@@ -1,4 +1,6 @@
 // Document 01, "How a packet is served": each typed request, handed to the one who answers it.
+#![tactic(auto)]
+
 ghost use Rattle.std.specs.Prelude.{◌≡◌, length};
 ghost use Rattle.att.specs.Typed.{show_req};
 ghost use Rattle.answers.specs.Replies.{error};
@@ -11,10 +13,10 @@ use answers::Link;
 use att::{ATT_EXECUTE_WRITE_REQ, ATT_PREPARE_WRITE_REQ, ATT_READ_MULTIPLE_REQ, AttReq};
 use att_error::AttErrorCode;
 use attributes::Table;
+use ble_uuid::Uuid;
 use serve_change::{Pending, Said};
 use serve_search::Ask;
 use serve_tell::Wrote;
-use ble_uuid::Uuid;
 
 // The answer to a request whose data stand in `src`. A type of 08 or 10 is `uuid`.
 pub fn answer<'a>(

@@ -4,6 +4,8 @@
 //
 // The permission is asked before any value or length is looked at: `offered` decides from type, marks and
 // link, and only what it takes is read.
+#![tactic(auto)]
+
 ghost use Rattle.std.specs.Prelude.{◌≡◌, ◌++◌, ◌≤◌, take};
 ghost use Rattle.serve_collect.specs.Collect.{head_of, taken};
 ghost use Rattle.serve_search.specs.Search.{room_for, listing_for};
@@ -15,7 +17,7 @@ use serve_collect::{Gathered, Head, Progress};
 use serve_offer::Offer;
 
 // 04, 06, 08 and 10.
-#[derive(Drop)]
+#[derive(Clone, Copy)]
 pub enum Ask {
     Info,
     Pair,
@@ -24,7 +26,7 @@ pub enum Ask {
 }
 
 // What is asked, of the attributes with handles from `from` to `to`.
-#[derive(Drop)]
+#[derive(Clone, Copy)]
 pub struct Query {
     pub ask: Ask,
     pub from: u16,
@@ -32,7 +34,7 @@ pub struct Query {
 }
 
 // What was found. The items stand one after the other in the first `used` bytes, and 00 behind them.
-#[derive(Drop)]
+#[derive(Clone, Copy)]
 pub struct Listing {
     pub found: Gathered,
     pub items: [u8; 247],

@@ -1,5 +1,7 @@
 // Document 01, "How a packet is served": an answer is a typed packet given to the encoder; where the
 // encoder refuses, error 0E with handle 0 goes out.
+#![tactic(auto)]
+
 ghost use Rattle.std.specs.Prelude.{◌≡◌, length};
 ghost use Rattle.codec.specs.Buffer.{laid};
 ghost use Rattle.att.specs.Typed.{written_of, laid_of};
@@ -13,7 +15,7 @@ use att_error::AttErrorCode;
 use codec::Written;
 
 // How many bytes went out, and whether they are the packet that was meant.
-#[derive(Drop)]
+#[derive(Clone, Copy)]
 pub struct Wrote {
     pub len: usize,
     pub meant: bool,

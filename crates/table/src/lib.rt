@@ -3,6 +3,8 @@
 //
 // Any table may be handed in: one that is not sound is refused with 11, and nothing outside the lent bytes
 // is touched.
+#![tactic(auto)]
+
 ghost use Rattle.std.specs.Prelude.{◌≡◌, ◌<◌, length};
 ghost use Rattle.attributes.specs.Soundness.{sound_table};
 ghost use Rattle.attributes.specs.Ledger.{lookup_refusal, looked_up};

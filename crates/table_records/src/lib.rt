@@ -1,5 +1,7 @@
 // Document 01, "Table, link and the till's own stores": a record found by its handle, and the value that
 // stands at its place.
+#![tactic(auto)]
+
 ghost use Rattle.std.specs.Prelude.{◌≤◌, min, ◌≡◌, take, drop};
 ghost use Rattle.attributes.specs.Ledger.{ledger_of, value_at};
 ghost use Rattle.attributes.specs.Records.{entries, value_of, find_in};

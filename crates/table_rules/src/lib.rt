@@ -1,5 +1,7 @@
 // Document 01, "Table, link and the till's own stores": the rules of a table, decided. Each is as
 // Soundness.antt of the book has it; sizes are compared by subtraction, so no sum can wrap.
+#![tactic(auto)]
+
 ghost use Rattle.std.specs.Prelude.{◌≡◌, ◌≤◌};
 ghost use Rattle.attributes.specs.Additions.{refusing};
 ghost use Rattle.attributes.specs.Records.{entries, slot_of, slot_size};
@@ -7,12 +9,12 @@ ghost use Rattle.attributes.specs.Soundness.{type_ok, value_ok, space_ok, start_
 ghost use Rattle.table_rules.specs.Walks.{nothing_walked, walk_from, walked_table};
 
 use attributes::{Changed, Outcome, Place, Record, Room, Table};
-use codec::Refusal;
 use ble_uuid::{Form, Uuid};
+use codec::Refusal;
 
 // Whether a table is sound, and the last handle and the end of the slots of one that is; 0 and 0 beside
 // one that is not.
-#[derive(Drop)]
+#[derive(Clone, Copy)]
 pub struct Walked {
     pub sound: bool,
     pub last: u16,

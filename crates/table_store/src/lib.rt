@@ -1,5 +1,7 @@
 // Document 01, "Table, link and the till's own stores": the till's own store. The value goes into the slot
 // of the record with the handle, and its length into the record; the table comes back by value.
+#![tactic(auto)]
+
 ghost use Rattle.std.specs.Prelude.{◌≡◌, ◌<◌};
 ghost use Rattle.codec.specs.Buffer.{laid_at};
 ghost use Rattle.attributes.specs.Records.{lengthened};

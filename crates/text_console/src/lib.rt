@@ -2,6 +2,8 @@
 //
 // No contract can say what is read from standard input or written to standard output: the programs'
 // stored runs show it.
+#![tactic(auto)]
+
 ghost use Rattle.std.specs.Prelude.{◌≡◌, false, [], ◌∷◌, length, replicate};
 ghost use Rattle.codec.specs.Buffer.{laid_at};
 ghost use Rattle.text_lines.specs.declared.Seen.TheVariants.{More};
@@ -31,7 +33,7 @@ pub fn complain(number: u64, what: &[u8]) -> usize
 
 // Where the reading of standard input is: in the line that is being read, and in the bytes that the
 // lent buffer holds of the last read.
-#[derive(Drop)]
+#[derive(Clone, Copy)]
 pub struct Input {
     pub lines: Lines,
     pub at: usize,
@@ -40,7 +42,7 @@ pub struct Input {
 
 // What came next: a line, what it is, and its number. Where there is no more, `seen` is a last line
 // without LF, or `More` for none.
-#[derive(Drop)]
+#[derive(Clone, Copy)]
 pub struct Came {
     pub input: Input,
     pub seen: Seen,

@@ -1,4 +1,6 @@
 // Numbers in decimal, without padding.
+#![tactic(auto)]
+
 ghost use Rattle.std.specs.Prelude.{◌≡◌, ◌++◌, ◌≤◌, length, take};
 ghost use Rattle.io.specs.Counts.{IsPrefixLen};
 ghost use Rattle.codec.specs.Buffer.{over, laid, written};
@@ -43,5 +45,5 @@ fn put(src: &[u8], dest: &mut [u8])
     requires { length src.now ≤ length dest.old }
     ensures { dest.new ≡ over src.now dest.old }
 {
-    bytes::copy(src, dest);
+    dest[..src.len()].copy_from_slice(src);
 }

@@ -1,4 +1,6 @@
 // What a person types for bytes, numbers and types.
+#![tactic(auto)]
+
 ghost use Rattle.std.specs.Prelude.{◌≤◌, ◌<◌, ◌≡◌, true, [], length};
 ghost use Rattle.codec.specs.Buffer.{over};
 ghost use Rattle.text_hex.specs.Hex.{values, below, pairs, without, unblanked, is_dash, hex_means, answered, filled, digits_mean};
@@ -10,27 +12,27 @@ ghost use Rattle.text_hex.specs.Scanning.{scanned, Skipped};
 use ble_uuid::{Raw, Sliced};
 
 // How many bytes a HEX has, or why it gives none.
-#[derive(Drop)]
+#[derive(Clone, Copy)]
 pub enum Hex {
     Bytes(usize),
     NotHex,
     TooLong,
 }
 
-#[derive(Drop)]
+#[derive(Clone, Copy)]
 pub enum Number {
     Is(u64),
     NotNumber,
 }
 
-#[derive(Drop)]
+#[derive(Clone, Copy)]
 pub enum Handle {
     At(u16),
     NotHandle,
 }
 
 // How many digits a text has, where it has nothing else.
-#[derive(Drop)]
+#[derive(Clone, Copy)]
 enum Scan {
     Digits(usize),
     Other,
@@ -252,7 +254,7 @@ fn type_bytes(word: &[u8]) -> Raw
             if k != n {
                 return no_type();
             }
-            bytes::reverse(&mut big, 0, n);
+            big[..n].reverse();
             Raw { bytes: big, len: n }
         }
         Hex::NotHex => no_type(),

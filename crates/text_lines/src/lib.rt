@@ -1,5 +1,7 @@
 // The lines of a program's input, and the words of a line. A program reads into a buffer, hands each
 // byte to `step` and answers a line as soon as `step` has seen its end.
+#![tactic(auto)]
+
 ghost use Rattle.std.specs.Prelude.{◌+◌, ◌≤◌, ◌<◌, min, ◌≡◌, false, length, take, drop};
 ghost use Rattle.text_lines.specs.Lines.{uncarriaged, silent, judged, end_of, reading_of, step_of, held_after, last_of};
 ghost use Rattle.text_lines.specs.Words.{trimmed, behind, word_of, member, each_once, marks_of};
@@ -7,7 +9,7 @@ ghost use Rattle.text_lines.specs.Words.{Ends};
 
 // The line that is being read: how many of its characters the lent buffer holds, whether there were
 // more than it has room for, and the line's number.
-#[derive(Drop)]
+#[derive(Clone, Copy)]
 pub struct Lines {
     pub len: usize,
     pub long: bool,
@@ -16,7 +18,7 @@ pub struct Lines {
 
 // What a byte, or the end of the input, brought: nothing to answer yet; a line, which is the buffer's
 // first bytes, so many; a line that is too long; or a blank line or a comment.
-#[derive(Drop)]
+#[derive(Clone, Copy)]
 pub enum Seen {
     More,
     Line(usize),
@@ -24,7 +26,7 @@ pub enum Seen {
     Passed,
 }
 
-#[derive(Drop)]
+#[derive(Clone, Copy)]
 pub struct Stepped {
     pub lines: Lines,
     pub seen: Seen,

@@ -1,6 +1,8 @@
 // Texts at a position of a lent line. Each function answers the position behind its text; where the
 // text does not fit, the line stays as it was and the answer is the largest number, at which nothing
 // more fits.
+#![tactic(auto)]
+
 ghost use Rattle.std.specs.Prelude.{◌+◌, ◌/◌, ◌%◌, ◌≤◌, ◌<◌, ◌≡◌, [], ◌∷◌, length};
 ghost use Rattle.codec.specs.Buffer.{over_at, laid_at};
 ghost use Rattle.text_print.specs.Print.{placed, two, capitals, hex_text, usual_text, type_by, type_text};
@@ -22,7 +24,7 @@ pub fn text(out: &mut [u8], pos: usize, bytes: &[u8]) -> usize
     if room - pos < bytes.len() {
         return 18446744073709551615;
     }
-    bytes::copy(bytes, &mut out[pos..]);
+    out[pos..pos + bytes.len()].copy_from_slice(bytes);
     pos + bytes.len()
 }
 
@@ -141,6 +143,6 @@ pub fn type_text(out: &mut [u8], pos: usize, u: Uuid) -> usize
     let form = u.form;
     let mut big = u.bytes;
     let n = ble_uuid::width(form);
-    bytes::reverse(&mut big, 0, n);
+    big[..n].reverse();
     spell(out, pos, form, &big[0..n])
 }

@@ -2,11 +2,13 @@
 //
 // A line is built at positions of a lent buffer: each function answers the position behind what it
 // wrote.
+#![tactic(auto)]
+
 ghost use Rattle.std.specs.Prelude.{◌≡◌};
 ghost use Rattle.text_put.specs.Put.{first_of, behind, holding, byted, numbered, counting, hexed, typed, refusal, complaint_texts};
 
-use codec::{Refusal, Written};
 use ble_uuid::Uuid;
+use codec::{Refusal, Written};
 
 // The first bytes of a buffer, so many; none where it has fewer.
 pub fn first(bytes: &[u8], n: usize) -> &[u8]

@@ -1,4 +1,6 @@
 // The text of each of the 256 error codes, a line each.
+#![tactic(auto)]
+
 use codec::Written;
 use libc::STDOUT_FILENO;
 

@@ -1,5 +1,7 @@
 // A table, a link, and what a device gets: each line of standard input is a command, and its answer is
 // a line; `show` has several. What a command does is a library call.
+#![tactic(auto)]
+
 ghost use Rattle.std.specs.Prelude.{◌≤◌};
 
 use answers::{Answer, Link, Served};
@@ -11,7 +13,7 @@ use till_read::{Command, Fault, Order};
 use till_state::{Moved, Till};
 
 // The till after a line, and whether there may be more lines.
-#[derive(Drop)]
+#[derive(Clone, Copy)]
 struct Took {
     till: Till,
     input: Input,

@@ -1,6 +1,8 @@
 // A line of `till` as a command, or what is wrong with it. The words are read first and judged then:
 // where a line has several faults, the first is told, an unknown command, then the number of words, then
 // the words from left to right.
+#![tactic(auto)]
+
 ghost use Rattle.std.specs.Prelude.{◌≡◌, Bool, length};
 ghost use Rattle.codec.specs.Cases.{pick, same};
 ghost use Rattle.text_hex.specs.Hex.{hex_means, answered, filled, decimal_of, handle_of};
@@ -13,10 +15,10 @@ ghost use Rattle.till_read.specs.Commands.{words_of, words_bytes, read_of, read_
 ghost use Rattle.till_read.specs.Commands.{name_of, link_name, table_name};
 
 use attributes::{Addition, Room};
-use text_hex::{Handle, Hex, Number};
 use ble_uuid::{Checked, Uuid};
+use text_hex::{Handle, Hex, Number};
 
-#[derive(Drop)]
+#[derive(Clone, Copy)]
 pub enum Fault {
     NotHex,
     UnknownCommand,
@@ -29,7 +31,7 @@ pub enum Fault {
 }
 
 // A command with its words read.
-#[derive(Drop)]
+#[derive(Clone, Copy)]
 pub enum Command {
     Fixed,
     Live {
@@ -58,7 +60,7 @@ pub enum Command {
 
 // A command; how many bytes its HEX has, which stand at the start of the lent bytes; and the attribute
 // that `Add` adds, since an enum cannot hold a type's bytes.
-#[derive(Drop)]
+#[derive(Clone, Copy)]
 pub struct Order {
     pub command: Command,
     pub len: usize,
@@ -66,7 +68,7 @@ pub struct Order {
 }
 
 // What the first word asks for.
-#[derive(Drop)]
+#[derive(Clone, Copy)]
 enum Name {
     Fixed,
     Live,
@@ -82,14 +84,14 @@ enum Name {
 }
 
 // Whether as many words as a command takes stand behind its name.
-#[derive(Drop)]
+#[derive(Clone, Copy)]
 enum Shape {
     Right,
     Wrong(Fault),
 }
 
 // The room that an addition asks for.
-#[derive(Drop)]
+#[derive(Clone, Copy)]
 enum Asked {
     Space(Room),
     Wrong(Fault),
@@ -98,7 +100,7 @@ enum Asked {
 fn is(word: &[u8], text: &[u8]) -> bool
     ensures { result ≡ same word.now text.now }
 {
-    check::same(word, text)
+    word == text
 }
 
 fn named(set: bool, name: Name, other: Name) -> Name

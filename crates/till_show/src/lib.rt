@@ -1,5 +1,7 @@
 // The lines of `show`, and those of what cannot be read. A line is built at positions of a lent buffer: each function answers the position
 // behind what it wrote.
+#![tactic(auto)]
+
 ghost use Rattle.std.specs.Prelude.{◌≡◌, false, [], ◌∷◌};
 ghost use Rattle.codec.specs.Cases.{pick};
 ghost use Rattle.text_put.specs.Put.{behind, holding};

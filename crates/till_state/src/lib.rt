@@ -1,5 +1,7 @@
 // What `till` holds, and how its commands change it. The bytes of the two areas and of the output are
 // lent; a till knows how many of them are in use.
+#![tactic(auto)]
+
 ghost use Rattle.std.specs.Prelude.{min, ◌≡◌, length, replicate};
 ghost use Rattle.attributes.specs.Additions.{new_table, added};
 ghost use Rattle.codec.specs.Buffer.{laid};
@@ -10,7 +12,7 @@ ghost use Rattle.till_state.specs.Tills.{moved as Tills·moved};
 use answers::Link;
 use attributes::{Addition, Outcome, Table};
 
-#[derive(Drop)]
+#[derive(Clone, Copy)]
 pub struct Till {
     pub table: Table,
     pub link: Link,
@@ -20,7 +22,7 @@ pub struct Till {
 }
 
 // What a call answers, and the till after it.
-#[derive(Drop)]
+#[derive(Clone, Copy)]
 pub struct Moved {
     pub outcome: Outcome,
     pub till: Till,
