@@ -19,6 +19,7 @@ pub fn first_link(encrypted: bool) -> Link
 }
 
 // Whether an MTU is legal: 23 to 247.
+#[tactic(auto, unfolding(answers::specs::Replies::mtu_ok))]
 pub fn legal_mtu(mtu: u16) -> bool
     ensures { result ≡ mtu_ok mtu }
 {
@@ -29,6 +30,7 @@ pub fn legal_mtu(mtu: u16) -> bool
 }
 
 // Whether a link is sound: its MTU is legal.
+#[tactic(auto, unfolding(answers::specs::Replies::link_ok))]
 pub fn sound(link: Link) -> bool
     ensures { result ≡ link_ok link }
 {
