@@ -74,7 +74,7 @@ impl<'d> ReadCursor<'d> {
     }
 
     pub fn consume(self, n: usize) -> &'d [u8]
-        ensures { result.now ≡ sliced self.entry.pos self.entry.«data».now n }
+        ensures part { result.now ≡ sliced self.entry.pos self.entry.«data».now n }
     {
         cursor::consume(self.pos, self.data, n)
     }
