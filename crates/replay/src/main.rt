@@ -5,6 +5,7 @@
 
 ghost use Rattle.std.specs.Prelude.{◌≤◌, length};
 
+use std::io::{self, Stdin, Stdout};
 use text_console::Input;
 use text_lines::Seen;
 
@@ -82,84 +83,91 @@ fn counted(n: u64) -> u64 {
     if n < u64::MAX { n + 1 } else { n }
 }
 
-fn write_difference(number: u64, own: &[u8]) {
+fn write_difference(to: Stdout, number: u64, own: &[u8]) -> io::Result<()> {
     let mut out = [0u8; 16448];
     let at = text_put::count(&mut out, 0, b"line ", number);
     let at = text_print::text(&mut out, at, b": ");
     let at = text_print::text(&mut out, at, own);
-    text_console::write_line(&mut out, at);
+    text_console::write_line(to, &mut out, at)
 }
 
 // A line with a REPLY: nothing is written where the answer is the same.
-fn compare(line: &[u8], number: u64, tally: Tally) -> Tally {
+fn compare(to: Stdout, line: &[u8], number: u64, tally: Tally) -> io::Result<Tally> {
     let mut out = [0u8; 16384];
     let n = reply(line, &mut out);
     let own = text_put::first(&out, n);
     let lines = counted(tally.lines);
     if own == wanted(line) {
-        return Tally {
+        return Ok(Tally {
             lines,
             different: tally.different,
-        };
+        });
     }
-    write_difference(number, own);
-    Tally {
+    write_difference(to, number, own)?;
+    Ok(Tally {
         lines,
         different: counted(tally.different),
-    }
+    })
 }
 
-fn answer(line: &[u8]) {
+fn answer(to: Stdout, line: &[u8]) -> io::Result<()> {
     let mut out = [0u8; 16384];
     let at = reply(line, &mut out);
-    text_console::write_line(&mut out, at);
+    text_console::write_line(to, &mut out, at)
 }
 
-fn take(line: &[u8], number: u64, tally: Tally) -> Tally {
+fn take(to: Stdout, line: &[u8], number: u64, tally: Tally) -> io::Result<Tally> {
     if replay_base::letter(text_lines::word(line, 0)) == b'?' {
-        answer(line);
-        return tally;
+        answer(to, line)?;
+        return Ok(tally);
     }
-    compare(line, number, tally)
+    compare(to, line, number, tally)
 }
 
-fn take_seen(seen: Seen, number: u64, line: &[u8], tally: Tally) -> Tally {
+fn take_seen(to: Stdout, seen: Seen, number: u64, line: &[u8], tally: Tally) -> io::Result<Tally> {
     match seen {
-        Seen::More => tally,
-        Seen::Line(n) => take(text_put::first(line, n), number, tally),
+        Seen::More => Ok(tally),
+        Seen::Line(n) => take(to, text_put::first(line, n), number, tally),
         Seen::TooLong => {
-            text_console::complain(number, b"too long");
-            tally
+            text_console::complain(to, number, b"too long")?;
+            Ok(tally)
         }
-        Seen::Passed => tally,
+        Seen::Passed => Ok(tally),
     }
 }
 
 // How many lines had a REPLY, and how many of them were answered otherwise.
-fn conclude(tally: Tally) {
+fn conclude(to: Stdout, tally: Tally) -> io::Result<()> {
     let mut out = [0u8; 128];
     if tally.lines == 0 {
-        return;
+        return Ok(());
     }
     let at = text_put::count(&mut out, 0, b"compared ", tally.lines);
     let at = text_put::count(&mut out, at, b", different ", tally.different);
-    text_console::write_line(&mut out, at);
+    text_console::write_line(to, &mut out, at)
 }
 
-fn turn(input: Input, tally: Tally, buf: &mut [u8], line: &mut [u8]) -> Turned {
-    let came = text_console::next(input, buf, line);
+fn turn(
+    from: Stdin,
+    to: Stdout,
+    input: Input,
+    tally: Tally,
+    buf: &mut [u8],
+    line: &mut [u8],
+) -> io::Result<Turned> {
+    let came = text_console::next(from, input, buf, line)?;
     let seen = came.seen;
     let next = came.input;
-    let tally = take_seen(seen, came.number, line, tally);
-    Turned {
+    let tally = take_seen(to, seen, came.number, line, tally)?;
+    Ok(Turned {
         input: next,
         tally,
         more: came.more,
-    }
+    })
 }
 
 // A proved loop has to end, so it counts its turns down from a number that no run uses up.
-fn run(buf: &mut [u8], line: &mut [u8]) {
+fn run(from: Stdin, to: Stdout, buf: &mut [u8], line: &mut [u8]) -> io::Result<()> {
     let mut input = text_console::start();
     let mut tally = Tally {
         lines: 0,
@@ -167,22 +175,22 @@ fn run(buf: &mut [u8], line: &mut [u8]) {
     };
     let mut turns = u64::MAX;
     while turns > 0 {
-        let t = turn(input, tally, buf, line);
+        let t = turn(from, to, input, tally, buf, line)?;
         let next = t.input;
         let sum = t.tally;
         if !t.more {
-            conclude(sum);
-            return;
+            return conclude(to, sum);
         }
         input = next;
         tally = sum;
         turns -= 1;
     }
+    Ok(())
 }
 
-fn main() {
-    let mut buf = io::large_buffer();
+fn main(rt: HostRuntime) -> io::Result<()> {
+    let mut buf = [0u8; 65536];
     // A line has up to 16,384 characters, and a CR.
     let mut line = [0u8; 16385];
-    run(&mut buf, &mut line);
+    run(rt.stdin(), rt.stdout(), &mut buf, &mut line)
 }

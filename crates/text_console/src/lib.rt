@@ -1,34 +1,35 @@
 // What the programs share: the lines of standard input one by one, and the lines that are written.
 //
 // No contract can say what is read from standard input or written to standard output: the programs'
-// stored runs show it.
+// stored runs show it. A read or a write that fails is an error of the system's, which ends the program.
 #![tactic(auto)]
 
-ghost use Rattle.std.specs.Prelude.{◌≡◌, false, [], ◌∷◌, length, replicate};
+ghost use Rattle.std.specs.Prelude.{◌≡◌, false, [], ◌∷◌, length, replicate, IfOk};
 ghost use Rattle.codec.specs.Buffer.{laid_at};
 ghost use Rattle.text_lines.specs.declared.Seen.TheVariants.{More};
 ghost use Rattle.text_put.specs.Put.{behind, complaint_texts};
 ghost use Rattle.text_console.specs.Console.{amid_of};
 
-use libc::{STDIN_FILENO, STDOUT_FILENO};
+use std::io::{self, Read, Stdin, Stdout, Write};
 use text_lines::{Lines, Seen, Stepped};
 
-// Writes the line that ends at a position to standard output.
-pub fn write_line(out: &mut [u8], pos: usize)
+// Writes the line that ends at a position to standard output. Whether that went well or not, the line
+// then ends with LF where it has room.
+pub fn write_line(mut to: Stdout, out: &mut [u8], pos: usize) -> io::Result<()>
     ensures { out.new ≡ laid_at pos (10 ∷ []) out.old }
 {
     let n = text_print::text(out, pos, b"\n");
-    io::write_all(STDOUT_FILENO, text_put::first(out, n));
+    to.write_all(text_put::first(out, n))
 }
 
 // Writes that line to standard output, and answers the position behind its text.
-pub fn complain(number: u64, what: &[u8]) -> usize
-    ensures { result ≡ behind (complaint_texts number what.now) 0 (replicate 64 0) }
+pub fn complain(to: Stdout, number: u64, what: &[u8]) -> io::Result<usize>
+    ensures { IfOk result (λ r. r ≡ behind (complaint_texts number what.now) 0 (replicate 64 0)) }
 {
     let mut out = [0u8; 64];
     let at = text_put::complaint(&mut out, 0, number, what);
-    write_line(&mut out, at);
-    at
+    write_line(to, &mut out, at)?;
+    Ok(at)
 }
 
 // Where the reading of standard input is: in the line that is being read, and in the bytes that the
@@ -84,21 +85,23 @@ fn unfinished(lines: Lines, at: usize, end: usize, more: bool) -> Came
 }
 
 // One byte that was read before; or, where none is left, one read of the input.
-fn turn(input: Input, buf: &mut [u8], line: &mut [u8]) -> Came {
+fn turn(mut from: Stdin, input: Input, buf: &mut [u8], line: &mut [u8]) -> io::Result<Came>
+    ensures buf_length { length buf.new ≡ length buf.old }
+    ensures line_length { length line.new ≡ length line.old }
+{
     let lines = input.lines;
     let at = input.at;
     let end = input.end;
     if at < end {
         if at < buf.len() {
-            return reached(text_lines::step(lines, buf[at], line), at + 1, end, true);
+            return Ok(reached(text_lines::step(lines, buf[at], line), at + 1, end, true));
         }
     }
-    let got = libc::read(STDIN_FILENO, buf);
-    let n = io::count(got, buf);
+    let n = from.read(buf)?;
     if n == 0 {
-        return reached(text_lines::last(lines, line), 0, 0, false);
+        return Ok(reached(text_lines::last(lines, line), 0, 0, false));
     }
-    unfinished(lines, 0, n, true)
+    Ok(unfinished(lines, 0, n, true))
 }
 
 // Whether the input is not yet at the end of a line, nor at its own.
@@ -119,23 +122,23 @@ fn amid(seen: Seen, more: bool) -> bool
 //
 // What is read may be anything, so the contract has what holds of every read: the two buffers are as
 // long as before, and what came is a line or the end of the input.
-pub fn next(input: Input, buf: &mut [u8], line: &mut [u8]) -> Came
-    ensures more_value { amid_of result.seen result.more ≡ false }
-    ensures buf_len_unchanged { length buf.new ≡ length buf.old }
-    ensures line_len_unchanged { length line.new ≡ length line.old }
+pub fn next(from: Stdin, input: Input, buf: &mut [u8], line: &mut [u8]) -> io::Result<Came>
+    ensures came { IfOk result (λ r. amid_of r.seen r.more ≡ false) }
+    ensures buf_length { length buf.new ≡ length buf.old }
+    ensures line_length { length line.new ≡ length line.old }
 {
     let mut reading = input;
     let mut turns = u64::MAX;
     while turns > 0 {
-        let t = turn(reading, buf, line);
+        let t = turn(from, reading, buf, line)?;
         let seen = t.seen;
         if !amid(seen, t.more) {
-            return t;
+            return Ok(t);
         }
         let input = t.input;
         reading = input;
         turns -= 1;
     }
     let lines = reading.lines;
-    unfinished(lines, 0, 0, false)
+    Ok(unfinished(lines, 0, 0, false))
 }

@@ -2,25 +2,27 @@
 #![tactic(auto)]
 
 use codec::Written;
-use libc::STDOUT_FILENO;
+use std::io::{self, Stdout, Write};
 
-fn write_line(code: u8) {
+fn write_line(mut to: Stdout, code: u8) -> io::Result<()> {
     let mut line = [0u8; 256];
     match att_text::write_text(code, &mut line) {
         Written::Done(n) => {
             if n <= 256 {
-                io::write_all(STDOUT_FILENO, &line[0..n]);
-                io::write_all(STDOUT_FILENO, b"\n");
+                to.write_all(&line[0..n])?;
+                to.write_all(b"\n")?;
             }
         }
         Written::Refused(_) => {
-            io::write_all(STDOUT_FILENO, b"refused\n");
+            to.write_all(b"refused\n")?;
         }
     }
+    Ok(())
 }
 
-fn main() {
+fn main(rt: HostRuntime) -> io::Result<()> {
     for code in 0..=255u8 {
-        write_line(code);
+        write_line(rt.stdout(), code)?;
     }
+    Ok(())
 }
