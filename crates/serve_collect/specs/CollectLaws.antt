@@ -4,7 +4,7 @@ use Rattle.std.proofs.Math.Bool.{true, false}
 use Rattle.std.proofs.Math.Path.{refl}
 use Rattle.std.proofs.Common.{sym, ap, ◌∙◌, arith, length-append, length-drop}
 use Rattle.std.proofs.Math.Dec.{leb}
-use borrow.Author.Tests.{eq-eqb, ne_eqb, eqb-true, le-leb, lt-leb, leb-true}
+use borrow.Author.Tests.{eq-eqb, ne_eqb, le-leb, lt-leb, leb-true}
 use Rattle.codec.specs.Buffer.{over, laid, over_at, laid_at}
 use Rattle.codec.specs.BufferLaws.{over_length, to_the_end, appended}
 use Rattle.codec.specs.Cases.{pick}

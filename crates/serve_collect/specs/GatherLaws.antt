@@ -1,6 +1,6 @@
 -- A walk over parts gives what the book's search gives, joined over the area, where each item by itself fits into the room and the
 -- area holds the room.
-use Rattle.std.specs.Prelude.{ℕ, ◌+◌, ◌-◌, ◌≤◌, Bool, ◌&&◌, ◌≡◌, take, drop}
+use Rattle.std.specs.Prelude.{ℕ, ◌+◌, ◌-◌, ◌≤◌, Bool, ◌&&◌, ◌≡◌, drop}
 use Rattle.std.proofs.Math.Bool.{true, false}
 use Rattle.std.proofs.Math.Path.{refl, ap, subst}
 use Rattle.std.proofs.Common.{sym, ◌∙◌, drop-drop, take_at, drop_at}
@@ -9,7 +9,7 @@ use native.Mathlib.Omega.{arith}
 use Rattle.std.proofs.Math.ListN.{length, length-append}
 use Rattle.std.proofs.Math.Dec.{leb, eqb}
 use borrow.Author.Tests.{eqb-true, le-leb, leb-true}
-use Rattle.codec.specs.Buffer.{over, over_at, laid_at}
+use Rattle.codec.specs.Buffer.{over, laid_at}
 use Rattle.codec.specs.BufferLaws.{over_length}
 use Rattle.codec.specs.Cases.{pick}
 use Rattle.codec.specs.CasesLaws.{both, impossible}
@@ -20,9 +20,9 @@ use Rattle.answers.specs.Replies as book
 use Rattle.answers.specs.Replies.{Part, keep, more, search}
 use Rattle.answers.specs.View.{View}
 use Rattle.serve_collect.specs.CollectLaws.{fit_here}
-use Rattle.serve_collect.specs.Collect.{Walk, fit_at, spot_for, stopped, taken_at, taken, step, fold, is_ended, found_by, shown_found, shown_on}
+use Rattle.serve_collect.specs.Collect.{Walk, fit_at, spot_for, taken_at, taken, step, fold, is_ended, found_by, shown_found, shown_on}
 use Rattle.serve_collect.specs.declared.Gathered.{Gathered}
-use Rattle.serve_collect.specs.declared.Gathered.TheVariants.{None, Failed, Listed}
+use Rattle.serve_collect.specs.declared.Gathered.TheVariants.{Failed, Listed}
 use Rattle.serve_collect.specs.declared.Progress.{Progress}
 use Rattle.serve_collect.specs.declared.Progress.TheVariants.{Seeking, Taking, Ended}
 use Rattle.serve_collect.specs.declared.Spot.{Spot}

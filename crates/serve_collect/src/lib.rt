@@ -122,6 +122,7 @@ fn spot_for(state: Progress, len: usize, room: u8) -> Spot
     }
 }
 
+#[tactic(auto, unfolding(crate::specs::Collect::fit_at))]
 fn fit(at: usize, len: usize, room: usize) -> Spot
     ensures { result ≡ fit_at room len at }
 {
