@@ -39,6 +39,7 @@ enum Scan {
 }
 
 // The value of a hexadecimal digit, or 16.
+#[tactic(auto, using(crate::specs::HexLaws::digit_low, crate::specs::HexLaws::digit_upper, crate::specs::HexLaws::digit_lower, crate::specs::HexLaws::digit_first, crate::specs::HexLaws::digit_second, crate::specs::HexLaws::digit_third, crate::specs::HexLaws::digit_last))]
 fn digit(c: u8) -> u8
     ensures { result ≡ Hex·digit c }
 {
@@ -51,6 +52,7 @@ fn digit(c: u8) -> u8
 }
 
 // The place of the first character at or behind `from` that is neither a nor b.
+#[tactic(auto, using(crate::specs::HexLaws::over_a, crate::specs::HexLaws::over_b, crate::specs::HexLaws::keeps))]
 fn skip(text: &[u8], from: usize, a: u8, b: u8) -> usize
     requires { from ≤ length text.now }
     ensures { Skipped a b text.now from result }
@@ -85,6 +87,7 @@ fn count_digits(text: &[u8], a: u8, b: u8) -> Scan
 }
 
 // Whether `-` stands alone in a text, but for blanks.
+#[tactic(auto, using(crate::specs::HexLaws::dash_none, crate::specs::HexLaws::dash_other, crate::specs::HexLaws::dash_more, crate::specs::HexLaws::dash_only))]
 fn is_dash(text: &[u8]) -> bool
     ensures { result ≡ is_dash (unblanked text.now) }
 {
@@ -193,6 +196,7 @@ pub fn read_decimal(word: &[u8]) -> Number
 }
 
 // HANDLE: 4 hexadecimal digits.
+#[tactic(auto, using(crate::specs::HexLaws::handle_length, crate::specs::HexLaws::handle_as, crate::specs::HexLaws::number_bounded))]
 pub fn read_handle(word: &[u8]) -> Handle
     ensures { result ≡ handle_of word.now }
 {
@@ -206,6 +210,7 @@ pub fn read_handle(word: &[u8]) -> Handle
 }
 
 // How many bytes a type of this outline has.
+#[tactic(auto, unfolding(crate::specs::Hex::outline))]
 fn outline(word: &[u8]) -> usize
     ensures value { result ≡ Hex·outline word.now }
     ensures upper_bound { result ≤ 16 }

@@ -1,7 +1,7 @@
 -- The lines of a program's input. A line ends with LF; one CR before the end is ignored. Blank lines, and lines whose first
 -- character other than a blank is `#`, are passed over. A line longer than its room is one error, a comment too. Lines are
 -- counted from 1, all of them.
-use Rattle.std.specs.Prelude.{ℕ, ◌+◌, ◌-◌, Bool, true, false, ◌&&◌, ◌||◌, List, [], ◌∷◌, length, take, set, leb, ltb, eqb}
+use Rattle.std.specs.Prelude.{ℕ, ◌+◌, ◌-◌, Bool, true, false, ◌||◌, List, [], ◌∷◌, length, take, set, leb, ltb, eqb}
 use Rattle.codec.specs.Cases.{pick}
 use Rattle.text_lines.specs.declared.Lines.{Lines}
 use Rattle.text_lines.specs.declared.Seen.{Seen}

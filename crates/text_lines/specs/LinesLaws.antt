@@ -1,17 +1,17 @@
 -- Laws of lines and words, in the shapes that the proofs of the code ask for.
 use Rattle.std.specs.Prelude.{ℕ, zero, suc, ◌+◌, ◌-◌, ◌≤◌, ◌<◌, min, ◌≡◌, refl, Bool, false, ◌||◌, List, [], ◌∷◌, ◌++◌, length, take, drop, get_or, set, leb, eqb}
 use Rattle.std.proofs.Math.Path.{sym}
-use Rattle.std.proofs.Common.{ap, ◌∙◌, append-nil, append_assoc, arith, add-one, length-drop, length-take, drop_of_length-le, drop-cons, drop-drop, take-suc, take_all, length-take-le, take-take, get_or-drop}
+use Rattle.std.proofs.Common.{ap, ◌∙◌, append-nil, append_assoc, arith, add-one, length-drop, length-take, drop_of_length-le, drop-cons, take-suc, take_all, length-take-le, take-take, get_or-drop}
 use Rattle.std.proofs.Math.Bool.{true}
 use Rattle.std.proofs.Math.Seq.{take-length, set_out}
 use Rattle.std.proofs.Math.Dec.{ltb}
 use borrow.Author.Tests.{lt-ltb, le-ltb, le-leb, lt-leb, eq-eqb, ne_eqb, leb-true, leb-false}
 use Rattle.codec.specs.Cases.{pick}
-use Rattle.text_lines.specs.Lines.{blank, uncarriaged, silent, seen_of, judged, end_of, step_of, held_after, last_of, reading_of, following}
-use Rattle.text_lines.specs.Words.{trimmed, front, behind, word_of, member, each_once, is_dash, marks_of, Ends}
+use Rattle.text_lines.specs.Lines.{blank, uncarriaged, silent, seen_of, judged, end_of, step_of, held_after, last_of, reading_of}
+use Rattle.text_lines.specs.Words.{trimmed, front, behind, word_of, member, each_once, marks_of}
 use Rattle.text_lines.specs.declared.Lines.{Lines}
 use Rattle.text_lines.specs.declared.Stepped.{Stepped}
-use Rattle.text_lines.specs.declared.Seen.TheVariants.{More, Line, TooLong, Passed}
+use Rattle.text_lines.specs.declared.Seen.TheVariants.{Line, TooLong, Passed}
 
 -- a line's next character
 pub next_character : (l : List ℕ) (i : ℕ) → i < length l → drop i l ≡ get_or l i 0 ∷ drop (i + 1) l

@@ -1,5 +1,5 @@
 -- The words of a line: its runs of characters that are not blanks. And marks: letters of a given set, each at most once.
-use Rattle.std.specs.Prelude.{ℕ, zero, suc, ◌-◌, ◌≤◌, ◌≡◌, Bool, true, false, not, ◌&&◌, ◌||◌, List, [], ◌∷◌, length, take, drop, eqb}
+use Rattle.std.specs.Prelude.{ℕ, zero, suc, ◌-◌, ◌≤◌, ◌≡◌, Bool, true, false, ◌||◌, List, [], ◌∷◌, length, take, drop, eqb}
 use Rattle.codec.specs.Cases.{pick}
 use Rattle.text_lines.specs.Lines.{blank}
 

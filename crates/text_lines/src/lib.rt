@@ -44,6 +44,7 @@ pub fn new() -> Lines
 }
 
 // How many characters a line has without a CR at its end.
+#[tactic(auto, using(crate::specs::LinesLaws::no_characters, crate::specs::LinesLaws::cr_ends, crate::specs::LinesLaws::other_ends))]
 fn chomp(line: &[u8]) -> usize
     ensures line_value { uncarriaged line.now ≡ take result line.now }
     ensures upper_bound { result ≤ length line.now }
@@ -59,6 +60,7 @@ fn chomp(line: &[u8]) -> usize
 }
 
 // Whether a line is passed over.
+#[tactic(auto, using(crate::specs::LinesLaws::blank_space, crate::specs::LinesLaws::blank_tab, crate::specs::LinesLaws::no_blank, crate::specs::LinesLaws::silent_blank, crate::specs::LinesLaws::silent_first, crate::specs::LinesLaws::silent_none))]
 fn is_silent(line: &[u8]) -> bool
     ensures { result ≡ silent line.now }
 {
@@ -82,6 +84,7 @@ fn least(a: usize, b: usize) -> usize
 }
 
 // What a whole line is. The buffer has one place more than a line may have characters, for the CR.
+#[tactic(auto, using(crate::specs::LinesLaws::long_line, crate::specs::LinesLaws::whole_line, crate::specs::LinesLaws::whole_long, crate::specs::LinesLaws::whole_passed, crate::specs::LinesLaws::whole_kept))]
 fn judge(lines: Lines, buf: &[u8]) -> Seen
     ensures { result ≡ judged lines buf.now }
 {
@@ -133,6 +136,7 @@ fn reading(lines: Lines, len: usize, long: bool) -> Stepped
 }
 
 // One byte of the input.
+#[tactic(auto, using(crate::specs::LinesLaws::step_lf, crate::specs::LinesLaws::step_kept, crate::specs::LinesLaws::step_full))]
 pub fn step(lines: Lines, c: u8, buf: &mut [u8]) -> Stepped
     ensures value { result ≡ step_of lines c buf.old }
     ensures buf_after { buf.new ≡ held_after lines c buf.old }
@@ -149,6 +153,7 @@ pub fn step(lines: Lines, c: u8, buf: &mut [u8]) -> Stepped
 }
 
 // The end of the input: a last line without LF counts.
+#[tactic(auto, using(crate::specs::LinesLaws::last_long, crate::specs::LinesLaws::last_some, crate::specs::LinesLaws::last_none))]
 pub fn last(lines: Lines, buf: &[u8]) -> Stepped
     ensures { result ≡ last_of lines buf.now }
 {
@@ -162,6 +167,7 @@ pub fn last(lines: Lines, buf: &[u8]) -> Stepped
 }
 
 // The place of the first character at or behind `from` that is no blank.
+#[tactic(auto, using(crate::specs::LinesLaws::blank_space, crate::specs::LinesLaws::blank_tab, crate::specs::LinesLaws::no_blank, crate::specs::LinesLaws::trimmed_blank, crate::specs::LinesLaws::trimmed_first, crate::specs::LinesLaws::trimmed_none))]
 fn word_start(line: &[u8], from: usize) -> usize
     requires { from ≤ length line.now }
     ensures { (result ≤ length line.now) × (drop result line.now ≡ trimmed (drop from line.now)) }
@@ -180,6 +186,7 @@ fn word_start(line: &[u8], from: usize) -> usize
 }
 
 // The place of the first blank at or behind `from`.
+#[tactic(auto, using(crate::specs::LinesLaws::blank_space, crate::specs::LinesLaws::blank_tab, crate::specs::LinesLaws::no_blank, crate::specs::LinesLaws::behind_blank, crate::specs::LinesLaws::behind_more, crate::specs::LinesLaws::behind_none, crate::specs::LinesLaws::word_on, crate::specs::LinesLaws::word_ends, crate::specs::LinesLaws::word_none))]
 fn word_end(line: &[u8], from: usize) -> usize
     requires { from ≤ length line.now }
     ensures { Ends line.now from result }
@@ -199,6 +206,7 @@ fn word_end(line: &[u8], from: usize) -> usize
 }
 
 // The word with the number k, counted from 0; empty where there are fewer words.
+#[tactic(auto, using(crate::specs::LinesLaws::words_start, crate::specs::LinesLaws::words_next, crate::specs::LinesLaws::words_here))]
 pub fn word(line: &[u8], k: usize) -> &[u8]
     ensures { result.now ≡ word_of k line.now }
 {
@@ -214,6 +222,7 @@ pub fn word(line: &[u8], k: usize) -> &[u8]
 }
 
 // Whether a letter stands in a word.
+#[tactic(auto, using(crate::specs::LinesLaws::member_here, crate::specs::LinesLaws::member_on, crate::specs::LinesLaws::member_none))]
 pub fn has(word: &[u8], letter: u8) -> bool
     ensures { result ≡ member letter word.now }
 {
@@ -227,6 +236,7 @@ pub fn has(word: &[u8], letter: u8) -> bool
     false
 }
 
+#[tactic(auto, using(crate::specs::LinesLaws::once_other, crate::specs::LinesLaws::once_twice, crate::specs::LinesLaws::once_on, crate::specs::LinesLaws::once_none))]
 fn once(letters: &[u8], word: &[u8]) -> bool
     ensures { result ≡ each_once letters.now word.now }
 {
@@ -245,6 +255,7 @@ fn once(letters: &[u8], word: &[u8]) -> bool
 }
 
 // Whether a word is MARKS of these letters: each at most once, in any order, or `-` for none.
+#[tactic(auto, using(crate::specs::LinesLaws::marks_dash, crate::specs::LinesLaws::marks_letters))]
 pub fn marks(letters: &[u8], word: &[u8]) -> bool
     ensures { result ≡ marks_of letters.now word.now }
 {
