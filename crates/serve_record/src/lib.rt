@@ -18,6 +18,7 @@ pub enum Permission {
 }
 
 // Whether a link may read the record's value, or the code that it is refused with.
+#[tactic(auto, unfolding(crate::specs::Permissions::permission_of))]
 pub fn may_read(r: Record, encrypted: bool) -> Permission
     ensures { result ≡ permission_of encrypted r }
 {
