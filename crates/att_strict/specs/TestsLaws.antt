@@ -1,9 +1,9 @@
 -- Laws of the tests on lengths. Each has the shape of what a function's proof is asked for.
-use Rattle.std.specs.Prelude.{ℕ, ◌-◌, ◌%◌, ◌≤◌, ◌<◌, Bool, true, false, ◌&&◌, ◌||◌, ◌≡◌, refl, List, [], ◌∷◌, leb, eqb, length, drop}
-use Rattle.std.proofs.Common.{sym, ap, ◌∙◌, arith, length-drop, le-leb, eq-eqb, ne_eqb, eqb-true, leb-true, leb-false}
+use Rattle.std.specs.Prelude.{ℕ, ◌-◌, ◌%◌, ◌≤◌, ◌<◌, Bool, true, false, ◌&&◌, ◌≡◌, refl, List, [], ◌∷◌, leb, eqb, length, drop}
+use Rattle.std.proofs.Common.{arith, length-drop, le-leb, ne_eqb, eqb-true, leb-true, leb-false}
 use Rattle.std.proofs.Math.Dec.{leb-zero}
 use Rattle.std.proofs.lemmas.Bool.{lt-leb, eqb-false}
-use Rattle.att.specs.Wire.{Ends, Handles, AUuid, Items, first, uuid_length}
+use Rattle.att.specs.Wire.{Ends, Handles, Items, first, uuid_length}
 use Rattle.att_strict.specs.Tests.{exact}
 
 pub and_false : (b : Bool) → (b && false) ≡ false

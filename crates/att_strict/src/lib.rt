@@ -18,6 +18,7 @@ use att::{
 use primitives::u8_at;
 
 // Whether bytes are a packet in the Core form. What does not decode is not strict.
+#[tactic(auto, using(crate::proofs::Rows::strict_nil))]
 pub fn strict(src: &[u8]) -> bool
     ensures { result ≡ wire.strict src.now }
 {
@@ -46,6 +47,7 @@ pub fn item_len(p: &[u8]) -> usize
 }
 
 // The strict form of the payload of an opcode.
+#[tactic(auto, unfolding(att::specs::Wire::shape_of, att::specs::Wire::rows))]
 fn strict_payload(op: u8, p: &[u8]) -> bool
     ensures { result ≡ shape_strict (shape_of op) p.now }
 {
