@@ -1,10 +1,9 @@
 -- What a person types for bytes and for numbers. HEX is an even number of hexadecimal digits of either case, with blanks
 -- anywhere between them, or `-` for no bytes. A number is a run of digits, the most significant first; leading zeros are
 -- allowed, and it has to fit.
-use Rattle.std.specs.Prelude.{ℕ, ◌+◌, ◌-◌, ◌*◌, ◌%◌, Bool, true, false, ◌&&◌, ◌||◌, List, [], ◌∷◌, map, length, get_or, leb, ltb, eqb}
+use Rattle.std.specs.Prelude.{ℕ, ◌+◌, ◌-◌, ◌*◌, ◌%◌, Bool, true, false, ◌&&◌, ◌||◌, List, [], ◌∷◌, map, reverse, length, get_or, leb, ltb, eqb}
 use Rattle.codec.specs.Cases.{pick}
 use Rattle.codec.specs.Buffer.{laid}
-use Rattle.bytes.specs.Bytes.{rev}
 use Rattle.ble_uuid.specs.Uuids.{sliced}
 use Rattle.ble_uuid.specs.declared.Sliced.{Sliced}
 use Rattle.text_hex.specs.declared.Hex.{Hex}
@@ -107,7 +106,7 @@ outline word =
 -- the bytes of a type, the least significant first; none where a word is no type
 abbrev pub type_from : ℕ → Meaning → List ℕ
 type_from n none = []
-type_from n (some bytes) = pick (eqb (length bytes) n) (rev bytes) []
+type_from n (some bytes) = pick (eqb (length bytes) n) (reverse bytes) []
 
 unfoldable pub type_bytes : List ℕ → List ℕ
 type_bytes word = type_from (outline word) (digits_mean (values (without 45 45 word)))

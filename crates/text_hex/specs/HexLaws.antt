@@ -1,9 +1,9 @@
 -- Laws of digits and bytes, in the shapes that the readers' proofs ask for.
 use Prim.Native.Nat.{ℕ, suc, ◌+◌, ◌-◌, ◌*◌, ◌/◌, ◌%◌, ◌≤◌, ◌<◌}
-use Rattle.std.specs.Prelude.{◌≡◌, refl, Bool, true, false, ◌&&◌, ◌||◌, set, leb, ltb, eqb}
+use Rattle.std.specs.Prelude.{◌≡◌, refl, Bool, true, false, ◌&&◌, set, leb, ltb}
 use Rattle.std.proofs.Math.Path.{sym, ap}
 use Rattle.std.proofs.Common.{◌∙◌, arith, add-one, add-zero, mul-le-mul_left, le-div_iff_mul-le, div-lt_iff_lt-mul, length-append, length-drop, drop_of_length-le, drop-cons, take-suc, take_at, drop_at, length-take-le}
-use mathlib.Core.List.{List, [], ◌∷◌, ◌++◌, map, reverse, append_assoc}
+use mathlib.Core.List.{List, [], ◌∷◌, ◌++◌, reverse, append_assoc}
 use Rattle.std.proofs.Math.ListN.{length, take, drop, get_or, replicate, length-reverse}
 use Rattle.std.proofs.lemmas.List.{length-map, set_at}
 use Rattle.std.proofs.Math.Seq.{take-length, take-append_seam}
@@ -16,12 +16,10 @@ use Rattle.text_hex.specs.Hex.{digit, values, below, pairs, without, unblanked, 
 use Rattle.text_hex.specs.Scanning.{Skipped, scanned}
 use Rattle.ble_uuid.specs.Uuids.{raw_of}
 use Rattle.ble_uuid.specs.declared.Raw.{Raw}
-use Rattle.bytes.specs.Bytes.{rev, slice}
 use Rattle.text_hex.specs.declared.Hex.TheVariants.{Bytes, NotHex, TooLong}
 use Rattle.text_hex.specs.declared.Number.{Number}
 use Rattle.text_hex.specs.declared.Number.TheVariants.{Is, NotNumber}
-use Rattle.text_hex.specs.declared.Handle.TheVariants.{At, NotHandle}
-use Rattle.text_hex.specs.declared.Scan.{Scan}
+use Rattle.text_hex.specs.declared.Handle.TheVariants.{NotHandle}
 use Rattle.text_hex.specs.declared.Scan.TheVariants.{Digits, Other}
 
 -- the value of a character, by the range that it stands in
@@ -361,8 +359,7 @@ module _ (n : ℕ) (m : Meaning) where
       no (some bytes) p = rw (ne_eqb (length bytes) n (λ s. h (sym p.0 ∙ s)))
 
   pub type_is : (k : ℕ) → Bytes k ≡ answered m 16 → k ≡ n → (big little : List ℕ) → big ≡ filled m (replicate 16 0)
-      → little ≡ take 0 big ++ (rev (slice 0 n big) ++ drop n big) → record { bytes = little; len = n } ≡ raw_of (type_from n m)
-  unfolding rev slice
+      → little ≡ take 0 big ++ (reverse (take n big) ++ drop n big) → record { bytes = little; len = n } ≡ raw_of (type_from n m)
   type_is k e h big little b l = is m (taken_apart m k (sym e)) b
     where
       is : (w : Meaning) → Sized w k → big ≡ filled w (replicate 16 0) → record { bytes = little; len = n } ≡ raw_of (type_from n w)

@@ -196,7 +196,7 @@ pub fn read_decimal(word: &[u8]) -> Number
 }
 
 // HANDLE: 4 hexadecimal digits.
-#[tactic(auto, using(crate::specs::HexLaws::handle_length, crate::specs::HexLaws::handle_as, crate::specs::HexLaws::number_bounded))]
+#[tactic(auto, using(crate::specs::HexLaws::handle_length, crate::specs::HexLaws::number_bounded))]
 pub fn read_handle(word: &[u8]) -> Handle
     ensures { result ≡ handle_of word.now }
 {
