@@ -1,6 +1,6 @@
 -- Outlines are those of any link's views, and a group's end is found in one walk over the records.
 use Rattle.std.specs.Prelude.{ℕ, suc, ◌+◌, ◌≤◌, ◌<◌, Bool, true, false, ◌≡◌, refl, List, [], ◌∷◌, map, take, drop, get_or, ltb}
-use Rattle.std.proofs.Common.{sym, ap, ◌∙◌, arith, add-one, drop_of_length-le, length-take-le, drop-cons, lt-ltb, le-ltb}
+use Rattle.std.proofs.Common.{ap, ◌∙◌, arith, add-one, drop_of_length-le, length-take-le, drop-cons, lt-ltb, le-ltb}
 use Rattle.std.proofs.Math.ListN.{length}
 use Rattle.std.proofs.Math.Seq.{get_or-take}
 use Rattle.codec.specs.Cases.{pick}

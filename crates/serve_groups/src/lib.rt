@@ -9,6 +9,7 @@ ghost use Rattle.serve_groups.specs.Groups.{outline, outlines_of};
 use attributes::{Record, Table};
 
 // Whether these are the bytes of the type 2800 or 2801.
+#[tactic(auto, unfolding(answers::specs::Replies::groups))]
 pub fn is_group(kind: &[u8]) -> bool
     ensures { result ≡ groups kind.now }
 {
