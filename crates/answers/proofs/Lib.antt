@@ -9,6 +9,7 @@ pub mod Order
 pub mod Pharmacy
 pub mod Plain
 pub mod Premises
+pub mod ReplyLaws
 pub mod Searches
 pub mod SentBack
 pub mod Steps

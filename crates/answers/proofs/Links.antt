@@ -10,7 +10,7 @@ use Rattle.codec.specs.CasesLaws.{join}
 use Rattle.att.specs.Wire.{shape_of, shape_means}
 use Rattle.answers.specs.View.{View}
 use Rattle.answers.specs.Replies.{Effect, Nothing, Stores, Agrees, Reply, nth, commanded, reply_to, mtu_ok, link_ok}
-use Rattle.answers.specs.ReplyLaws.{Leaves, by_exchange, by_write, by_packets, by_reply, by_asks}
+use Rattle.answers.proofs.ReplyLaws.{Leaves, by_exchange, by_write, by_packets, by_reply, by_asks}
 use Rattle.answers.specs.Serve.{State, views, changed, asks, Send, after}
 use Rattle.answers.specs.declared.Link.{Link}
 use Rattle.answers.proofs.Steps.{send_is, store_link}

@@ -35,7 +35,7 @@ use Rattle.answers.specs.Replies.{Packet, Silence, Effect, Nothing, Stores, Repl
 use Rattle.answers.specs.Serve.{State, sound, ledger, views, Bytes, unlikely, coded_heard, spoken, serve_tests, serve_refusal, heard_by, answered, serve, Step, run}
 use Rattle.attributes.specs.Lists.{Each}
 use Rattle.answers.specs.Auditor.{accepted, last_for, Told, HasPart, HasWhole, about, TrueOf, told_by, read_heard, told, items_in, Starts, between, info_item, pair_item, value_item, group_item, holds_value, dues, due, Typed}
-use Rattle.answers.specs.ReplyLaws.{Leaves, by_pick, by_read, by_blob, by_searched, by_exchange, by_write, by_reply}
+use Rattle.answers.proofs.ReplyLaws.{Leaves, by_pick, by_read, by_blob, by_searched, by_exchange, by_write, by_reply}
 use Rattle.answers.proofs.Held.{held}
 use Rattle.answers.proofs.Lists.{each, each_so, each_two, each_map, each_kept, each_keep, each_start, cut}
 use Rattle.answers.proofs.Searches.{on_list, Sized, search_sizes, Given, given_if, search_starts, within_view}

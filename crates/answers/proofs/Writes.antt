@@ -25,7 +25,7 @@ use Rattle.attributes.specs.declared.Outcome.TheVariants.{Accepted, Refused}
 use Rattle.attributes.specs.declared.Record.{Record}
 use Rattle.answers.specs.View.{View, view, view_at, Writing, UpTo, NoWrite, may_write, unwritable, writing_of}
 use Rattle.answers.specs.Replies.{Says, Packet, Silence, Effect, Nothing, Stores, Reply, doing, only, error_packet, error, writing, write, keep, nth, served, row_reply, request, silent, commanded, command, reply_to, mtu_ok, link_ok}
-use Rattle.answers.specs.ReplyLaws.{Leaves, by_exchange, by_write, by_packets, by_reply, by_does, by_asks}
+use Rattle.answers.proofs.ReplyLaws.{Leaves, by_exchange, by_write, by_packets, by_reply, by_does, by_asks}
 use Rattle.answers.specs.Serve.{State, sound, ledger, views, does, serve_tests, serve_refusal, asks}
 use Rattle.answers.specs.Auditor.{write_in, AsksOnly, accepted_of, writable_at, takes_write}
 use Rattle.answers.specs.declared.Link.{Link}

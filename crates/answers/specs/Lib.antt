@@ -5,6 +5,5 @@ pub mod Demand3
 pub mod Examples
 pub mod Premises
 pub mod Replies
-pub mod ReplyLaws
 pub mod Serve
 pub mod View

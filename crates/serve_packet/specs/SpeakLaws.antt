@@ -18,7 +18,7 @@ use Rattle.attributes.specs.declared.Table.{Table}
 use Rattle.answers.specs.Contract.{views_for, answer_of, out_after}
 use Rattle.answers.specs.Replies as book
 use Rattle.answers.specs.Replies.{Says, Packet, Silence, Effect, Nothing, Reply, doing, error, request, silent, reply_to, link_ok}
-use Rattle.answers.specs.ReplyLaws.{by_exchange, by_write, by_packets, by_request}
+use Rattle.answers.proofs.ReplyLaws.{by_exchange, by_write, by_packets, by_request}
 use Rattle.answers.specs.Serve as till
 use Rattle.answers.specs.Serve.{State, sound, views, Bytes, unlikely, coded_heard, coded_does, spoken, does, serve_refusal, heard_by, effect_by, answered, asks}
 use Rattle.answers.specs.View.{View}

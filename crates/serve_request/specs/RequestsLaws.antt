@@ -8,7 +8,7 @@ use Rattle.attributes.specs.declared.Table.{Table}
 use Rattle.answers.proofs.Lists.{each}
 use Rattle.answers.specs.Replies as book
 use Rattle.answers.specs.Replies.{Reply, read_reply, blob_reply, range_ok}
-use Rattle.answers.specs.ReplyLaws.{by_pick, by_read, by_blob, by_listing}
+use Rattle.answers.proofs.ReplyLaws.{by_pick, by_read, by_blob, by_listing}
 use Rattle.answers.specs.View.{View}
 use Rattle.answers.specs.declared.Link.{Link}
 use Rattle.serve_search.specs.declared.Query.{Query}
