@@ -29,8 +29,7 @@ use Rattle.serve_collect.specs.Collect.{head_of}
 use Rattle.serve_offer.specs.Offers.{meant, pair_by, pair_offer, offer_by, typed_offer, grouped_offer}
 use Rattle.serve_collect.specs.declared.Head.{Head}
 use Rattle.serve_collect.specs.declared.Head.TheVariants.{Handle, Range}
-use Rattle.serve_offer.specs.declared.Offer.{Offer}
-use Rattle.serve_offer.specs.declared.Offer.TheVariants.{Skip, Take, Fail}
+use Rattle.serve_offer.specs.declared.Offer.TheVariants.{Skip, Take}
 
 module _ (kind value : List ℕ) (t : Table) (l : Link) (fixed live : List ℕ) (r : Record) where
   -- the outlines of the table are those of its views

@@ -22,6 +22,7 @@ pub enum Offer {
 }
 
 // 06: the record has the type and, as far as the link may read it, the value.
+#[tactic(auto, unfolding(crate::specs::Offers::pair_offer))]
 pub fn pair<'a>(
     kind: &[u8],
     value: &[u8],
@@ -51,6 +52,7 @@ pub fn pair<'a>(
 }
 
 // 08
+#[tactic(auto, unfolding(crate::specs::Offers::typed_offer))]
 pub fn typed(kind: &[u8], r: Record, link: Link) -> Offer
     ensures { result ≡ typed_offer kind.now link r }
 {
@@ -64,6 +66,7 @@ pub fn typed(kind: &[u8], r: Record, link: Link) -> Offer
 }
 
 // 10
+#[tactic(auto, unfolding(crate::specs::Offers::grouped_offer))]
 pub fn grouped(kind: &[u8], t: Table, r: Record, link: Link) -> Offer
     ensures { result ≡ grouped_offer kind.now t link r }
 {
@@ -80,6 +83,7 @@ pub fn grouped(kind: &[u8], t: Table, r: Record, link: Link) -> Offer
 }
 
 // The end that 06 gives beside a handle: the group's, or the handle itself for a type that opens no group.
+#[tactic(auto, unfolding(answers::specs::Replies::end_of))]
 fn end_in(t: Table, kind: &[u8], handle: u16) -> u16
     ensures { result ≡ end_of (outlines_of t) kind.now handle }
 {
