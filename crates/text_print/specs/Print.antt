@@ -1,7 +1,6 @@
 -- What a program prints: bytes as hexadecimal digits in capitals, `-` for no bytes; numbers of one and two bytes as 2 and 4
 -- digits; decimal numbers; types. A text is printed whole at a position of a lent line, or not at all.
-use Rattle.std.specs.Prelude.{ℕ, ◌+◌, ◌/◌, ◌%◌, List, [], ◌∷◌, ◌++◌, length, take, drop, replicate, leb, ltb}
-use Rattle.bytes.specs.Bytes.{rev}
+use Rattle.std.specs.Prelude.{ℕ, ◌+◌, ◌/◌, ◌%◌, List, [], ◌∷◌, ◌++◌, reverse, length, take, drop, replicate, leb, ltb}
 use Rattle.codec.specs.Cases.{pick}
 use Rattle.codec.specs.Buffer.{laid_at}
 use Rattle.ble_uuid.specs.Uuids.{own}
@@ -47,4 +46,4 @@ type_by Uuid32 b = capitals b
 type_by Uuid128 b = usual_text b
 
 abbrev pub type_text : Uuid → List ℕ
-type_text u = type_by u.form (rev (own u))
+type_text u = type_by u.form (reverse (own u))

@@ -11,7 +11,6 @@ use Rattle.std.proofs.lemmas.List.Edits.{sets-eq}
 use Rattle.std.proofs.lemmas.Bool.{lt-leb}
 use Rattle.codec.specs.Buffer.{over, over_at, laid_at}
 use Rattle.text_print.specs.Print.{placed, glyph, two, capitals, hex_text, usual_text}
-use Rattle.bytes.specs.Bytes.{rev, slice}
 use Rattle.ble_uuid.specs.Uuids.{own, width_of}
 use Rattle.ble_uuid.specs.UuidsLaws.{width_most}
 use Rattle.ble_uuid.specs.declared.Uuid.{Uuid}
@@ -133,13 +132,11 @@ module _ (u : Uuid) (n : ℕ) (w : n ≡ width_of u.form) (f : length u.bytes �
   turned : length (reverse (take n u.bytes)) ≡ n
   turned = length-reverse (take n u.bytes) ∙ length-take-le n u.bytes own_inside
 
-  module _ (big : List ℕ) (e : big ≡ take 0 u.bytes ++ (rev (slice 0 n u.bytes) ++ drop n u.bytes)) where
+  module _ (big : List ℕ) (e : big ≡ take 0 u.bytes ++ (reverse (take n u.bytes) ++ drop n u.bytes)) where
     pub turned_inside : n ≤ length big
-    unfolding rev slice
     turned_inside = rw (e, length-append (reverse (take n u.bytes)) (drop n u.bytes), turned) (omega arith)
 
-    pub turned_own : take (n - 0) (drop 0 big) ≡ rev (own u)
-    unfolding rev slice
+    pub turned_own : take (n - 0) (drop 0 big) ≡ reverse (own u)
     turned_own =
         let z : n - 0 ≡ n = omega arith in
         rw (z, e) (take_at (reverse (take n u.bytes)) (drop n u.bytes) n turned ∙ ap (λ (k : ℕ). reverse (take k u.bytes)) w)

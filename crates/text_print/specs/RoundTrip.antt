@@ -1,10 +1,10 @@
 -- What is printed as HEX is read back as the same bytes.
-use Rattle.std.specs.Prelude.{ℕ, ◌+◌, ◌-◌, ◌*◌, ◌/◌, ◌%◌, ◌≤◌, ◌<◌, ◌≡◌, refl, Bool, true, false, List, [], ◌∷◌, ◌++◌, length, ltb}
+use Rattle.std.specs.Prelude.{ℕ, ◌+◌, ◌/◌, ◌%◌, ◌≤◌, ◌<◌, ◌≡◌, refl, Bool, true, false, List, [], ◌∷◌, length, ltb}
 use Rattle.std.proofs.Common.{sym, ap, ◌∙◌, arith, div-add-mod', ltb-true, ltb-false, lt-ltb, eq-eqb, ne_eqb}
 use Rattle.std.proofs.lemmas.List.{length-map}
-use Rattle.text_hex.specs.Hex.{digit, values, below, pairs, without, unblanked, is_dash, digits_mean, hex_means, some}
+use Rattle.text_hex.specs.Hex.{digit, values, below, pairs, without, unblanked, is_dash, hex_means, some}
 use Rattle.text_hex.specs.HexLaws.{digit_low, digit_upper, below_cons}
-use Rattle.text_print.specs.Print.{glyph, two, capitals, hex_text}
+use Rattle.text_print.specs.Print.{glyph, capitals, hex_text}
 use Rattle.text_print.specs.PrintLaws.{glyph_low, glyph_high, capitals_length}
 
 digit_glyph : (d : ℕ) → d < 16 → digit (glyph d) ≡ d

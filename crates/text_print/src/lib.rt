@@ -28,6 +28,7 @@ pub fn text(out: &mut [u8], pos: usize, bytes: &[u8]) -> usize
     pos + bytes.len()
 }
 
+#[tactic(auto, using(crate::specs::PrintLaws::glyph_low, crate::specs::PrintLaws::glyph_high))]
 fn glyph(d: u8) -> u8
     requires { d < 16 }
     ensures { result ≡ Print·glyph d }
@@ -36,6 +37,7 @@ fn glyph(d: u8) -> u8
 }
 
 // The two digits of a byte.
+#[tactic(auto, using(crate::specs::PrintLaws::two_stores))]
 fn pair(out: &mut [u8], at: usize, b: u8)
     requires { at + 2 ≤ length out.old }
     ensures { out.new ≡ over_at at (two b) out.old }

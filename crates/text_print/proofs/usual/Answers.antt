@@ -1,0 +1,7 @@
+-- Five times digits are laid over a line of `-`.
+use Rattle.text_print.specs.PrintLaws.{usual_stores}
+use Rattle.text_print.proofs.usual.Goals as goal
+
+pub returns : goal.returns
+returns c =
+    usual_stores c.args.big.now _ _ _ _ _ c.digits.ensures.out_after c.digits-2.ensures.out_after c.digits-3.ensures.out_after c.digits-4.ensures.out_after c.digits-5.ensures.out_after
