@@ -29,6 +29,7 @@ pub fn store(t: Table, handle: u16, value: &[u8], fixed: &[u8], live: &mut [u8])
 }
 
 // A value into the slot of the record `r`, which has the number `i`.
+#[tactic(auto, unfolding(crate::specs::Slots::stored_as, crate::specs::Slots::stored_as_live))]
 fn store_record(t: Table, i: usize, r: Record, value: &[u8], live: &mut [u8]) -> Changed
     requires { i < 64 }
     ensures value { result ≡ stored_as t i r value.now }
