@@ -1,6 +1,6 @@
 -- Laws of a program's line, in the shapes that the proofs of the code ask for.
 use Rattle.std.specs.Prelude.{ℕ, ◌-◌, ◌≤◌, ◌<◌, ◌≡◌, refl, Bool, true, false, not, List, [], ◌∷◌, ◌++◌, length, take, drop, replicate, leb}
-use Rattle.std.proofs.Common.{sym, ap, ◌∙◌, arith, length-append, take_at, le-leb}
+use Rattle.std.proofs.Common.{sym, arith, length-append, take_at, le-leb}
 use Rattle.std.proofs.lemmas.Bool.{lt-leb}
 use Rattle.codec.specs.CasesLaws.{impossible}
 use Rattle.codec.specs.Ascii.{ascii}
@@ -11,7 +11,6 @@ use Rattle.codec.specs.declared.Error.{Error}
 use Rattle.codec.specs.declared.Error.TheVariants as error
 use Rattle.codec.specs.declared.Refusal.{Refusal}
 use Rattle.codec.specs.declared.Refusal.TheVariants.{InsufficientSpace, InvalidValue, TableFull, BadHandle, BadType, BadValue, NoRoom, UnknownHandle, NotStorable, TooLong, BadTable, BadLink}
-use Rattle.codec.specs.declared.Written.{Written}
 use Rattle.codec.specs.declared.Written.TheVariants.{Done, Refused}
 use Rattle.text_put.specs.Put.{first_of, behind, holding, refusal}
 use Rattle.text_print.specs.Print.{placed, hex_text}

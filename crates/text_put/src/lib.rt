@@ -21,6 +21,7 @@ pub fn first(bytes: &[u8], n: usize) -> &[u8]
 }
 
 // A text and a number of one byte.
+#[tactic(auto, unfolding(crate::specs::Put::behind, crate::specs::Put::holding))]
 pub fn byte(out: &mut [u8], pos: usize, name: &[u8], v: u8) -> usize
     ensures value { result ≡ behind (byted name.now v) pos out.old }
     ensures out_after { out.new ≡ holding (byted name.now v) pos out.old }
@@ -30,6 +31,7 @@ pub fn byte(out: &mut [u8], pos: usize, name: &[u8], v: u8) -> usize
 }
 
 // A text and a number of two bytes.
+#[tactic(auto, unfolding(crate::specs::Put::behind, crate::specs::Put::holding))]
 pub fn word(out: &mut [u8], pos: usize, name: &[u8], v: u16) -> usize
     ensures value { result ≡ behind (numbered name.now v) pos out.old }
     ensures out_after { out.new ≡ holding (numbered name.now v) pos out.old }
@@ -39,6 +41,7 @@ pub fn word(out: &mut [u8], pos: usize, name: &[u8], v: u16) -> usize
 }
 
 // A text and a decimal number.
+#[tactic(auto, unfolding(crate::specs::Put::behind, crate::specs::Put::holding))]
 pub fn count(out: &mut [u8], pos: usize, name: &[u8], v: u64) -> usize
     ensures value { result ≡ behind (counting name.now v) pos out.old }
     ensures out_after { out.new ≡ holding (counting name.now v) pos out.old }
@@ -48,6 +51,7 @@ pub fn count(out: &mut [u8], pos: usize, name: &[u8], v: u64) -> usize
 }
 
 // A text and bytes in HEX.
+#[tactic(auto, unfolding(crate::specs::Put::behind, crate::specs::Put::holding))]
 pub fn hex(out: &mut [u8], pos: usize, name: &[u8], bytes: &[u8]) -> usize
     ensures value { result ≡ behind (hexed name.now bytes.now) pos out.old }
     ensures out_after { out.new ≡ holding (hexed name.now bytes.now) pos out.old }
@@ -57,6 +61,7 @@ pub fn hex(out: &mut [u8], pos: usize, name: &[u8], bytes: &[u8]) -> usize
 }
 
 // A text and a TYPE.
+#[tactic(auto, unfolding(crate::specs::Put::behind, crate::specs::Put::holding))]
 pub fn kind(out: &mut [u8], pos: usize, name: &[u8], u: Uuid) -> usize
     ensures value { result ≡ behind (typed name.now u) pos out.old }
     ensures out_after { out.new ≡ holding (typed name.now u) pos out.old }
@@ -80,6 +85,7 @@ pub fn refused(r: Refusal, out: &mut [u8], pos: usize) -> usize
 }
 
 // What is said of a line that cannot be read: `error line K: WHAT`.
+#[tactic(auto, unfolding(crate::specs::Put::behind, crate::specs::Put::holding))]
 pub fn complaint(out: &mut [u8], pos: usize, number: u64, what: &[u8]) -> usize
     ensures value { result ≡ behind (complaint_texts number what.now) pos out.old }
     ensures out_after { out.new ≡ holding (complaint_texts number what.now) pos out.old }
