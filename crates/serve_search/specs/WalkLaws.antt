@@ -9,7 +9,6 @@ use Rattle.std.proofs.Math.ListN.{length, length-replicate}
 use Rattle.std.proofs.Math.Dec.{leb}
 use borrow.Author.Tests.{le-leb, lt-leb}
 use Rattle.codec.specs.Cases.{pick}
-use Rattle.ble_uuid.specs.Uuids.{own}
 use Rattle.ble_uuid.specs.UuidsLaws.{own_most}
 use Rattle.attributes.specs.Ledger.{item}
 use Rattle.attributes.specs.Lists.{Each}
@@ -33,10 +32,10 @@ use Rattle.serve_collect.specs.declared.Head.{Head}
 use Rattle.serve_collect.specs.declared.Progress.{Progress}
 use Rattle.serve_collect.specs.declared.Progress.TheVariants.{Seeking}
 use Rattle.serve_offer.specs.OffersLaws.{pair_is, typed_is, grouped_is, typed_head}
-use Rattle.serve_offer.specs.Offers.{meant, typed_offer}
+use Rattle.serve_offer.specs.Offers.{meant}
 use Rattle.serve_offer.specs.declared.Offer.{Offer}
 use Rattle.serve_offer.specs.declared.Offer.TheVariants.{Skip, Take, Fail}
-use Rattle.serve_search.specs.Search.{part_for, room_for, found_for, no_items, shown, listing_for}
+use Rattle.serve_search.specs.Search.{part_for, room_for, found_for, no_items, listing_for}
 use Rattle.serve_search.specs.Walk.{offer_for, tail_for, given, given_by, turn_of, walked}
 use Rattle.serve_search.specs.declared.Ask.{Ask}
 use Rattle.serve_search.specs.declared.Ask.TheVariants.{Info, Pair, Typed, Grouped}
