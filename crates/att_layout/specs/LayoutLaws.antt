@@ -1,8 +1,8 @@
 -- The opcode and the fields of a layout are the head that the packet's row says, case by case; and how long they can be.
-use Rattle.std.specs.Prelude.{ℕ, ◌≤◌, ◌≡◌, refl, List, length}
+use Rattle.std.specs.Prelude.{ℕ, ◌≤◌, ◌≡◌, refl, length}
 use Rattle.std.proofs.Common.{arith}
 use Rattle.att.specs.Wire.{rows, shape_of}
-use Rattle.att.specs.Typed.{Shown, show_req, show_cfm, show_client, show_rsp, show_uns, show_server, show_att}
+use Rattle.att.specs.Typed.{Shown, show_req, show_cfm, show_client, show_rsp, show_server, show_att}
 use Rattle.att.specs.declared.AttReq.{AttReq}
 use Rattle.att.specs.declared.AttReq.TheVariants as req
 use Rattle.att.specs.declared.AttCfm.{AttCfm}
@@ -11,13 +11,12 @@ use Rattle.att.specs.declared.AttClient.{AttClient}
 use Rattle.att.specs.declared.AttClient.TheVariants.{Request, Command, Confirmation}
 use Rattle.att.specs.declared.AttRsp.{AttRsp}
 use Rattle.att.specs.declared.AttRsp.TheVariants as rsp
-use Rattle.att.specs.declared.AttUns.{AttUns}
 use Rattle.att.specs.declared.AttUns.TheVariants as uns
 use Rattle.att.specs.declared.AttServer.{AttServer}
 use Rattle.att.specs.declared.AttServer.TheVariants.{Response, Unsolicited}
 use Rattle.att.specs.declared.Att.{Att}
 use Rattle.att.specs.declared.Att.TheVariants.{Client, Server}
-use Rattle.att_layout.specs.Layout.{field_bytes, head_bytes, layout_of, shown_head}
+use Rattle.att_layout.specs.Layout.{head_bytes, layout_of, shown_head}
 use Rattle.att_layout.specs.declared.Fields.{Fields}
 use Rattle.att_layout.specs.declared.Fields.TheVariants.{Bare, Byte, Word, Pair, Triple, Error}
 

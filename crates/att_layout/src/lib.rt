@@ -61,6 +61,7 @@ pub fn lay_out(att: Att) -> Layout
     }
 }
 
+#[tactic(auto, unfolding(crate::specs::Layout::layout_of, att::specs::Wire::shape_of, att::specs::Wire::rows))]
 fn lay_out_client(c: AttClient) -> Layout
     ensures { result ≡ layout_of (show_client c) }
 {
@@ -71,6 +72,7 @@ fn lay_out_client(c: AttClient) -> Layout
     }
 }
 
+#[tactic(auto, unfolding(crate::specs::Layout::layout_of, att::specs::Wire::shape_of, att::specs::Wire::rows))]
 fn lay_out_cfm(c: AttCfm) -> Layout
     ensures { result ≡ layout_of (show_cfm c) }
 {
@@ -79,6 +81,7 @@ fn lay_out_cfm(c: AttCfm) -> Layout
     }
 }
 
+#[tactic(auto, unfolding(crate::specs::Layout::layout_of, att::specs::Wire::shape_of, att::specs::Wire::rows))]
 fn lay_out_req(r: AttReq) -> Layout
     ensures { result ≡ layout_of (show_req r) }
 {
@@ -143,6 +146,7 @@ fn lay_out_server(s: AttServer) -> Layout
     }
 }
 
+#[tactic(auto, unfolding(crate::specs::Layout::layout_of, att::specs::Wire::shape_of, att::specs::Wire::rows))]
 fn lay_out_rsp(r: AttRsp) -> Layout
     ensures { result ≡ layout_of (show_rsp r) }
 {
@@ -186,6 +190,7 @@ fn lay_out_rsp(r: AttRsp) -> Layout
     }
 }
 
+#[tactic(auto, unfolding(crate::specs::Layout::layout_of, att::specs::Wire::shape_of, att::specs::Wire::rows))]
 fn lay_out_uns(u: AttUns) -> Layout
     ensures { result ≡ layout_of (show_uns u) }
 {
