@@ -19,12 +19,13 @@ use Rattle.ble_uuid.specs.declared.Raw.{Raw}
 use Rattle.ble_uuid.specs.declared.Uuid.{Uuid}
 use Rattle.att.specs.Wire as wire
 use Rattle.att.specs.Wire.{shape_of, sent_tail, tail_decodes, uuid_length, whole, Coded, Sent, NotSent, send}
-use Rattle.att.specs.Typed.{Shown, part_of, tail_of, means_shown, countable, encoded_shown, length_of, written_of, laid_of}
+use Rattle.att.specs.Typed.{Shown, show_att, part_of, tail_of, means_shown, countable, encoded_shown, length_of, written_of, laid_of}
+use Rattle.att.specs.declared.Att.{Att}
 use Rattle.att.specs.declared.Span.{Span}
 use Rattle.att.specs.declared.Length.TheVariants as long
 use Rattle.att.specs.declared.Length.TheVariants.{Bytes}
 use Rattle.att_layout.specs.Layout.{head_bytes, shown_head, follows_of, layout_of}
-use Rattle.att_layout.specs.LayoutLaws.{head_most}
+use Rattle.att_layout.specs.LayoutLaws.{heads, head_most}
 use Rattle.att_encode.specs.Place.{fits, items_place, uuid_place, place_by, place_of, coded_at}
 use Rattle.att_layout.specs.declared.Follows.{Follows}
 use Rattle.att_layout.specs.declared.Follows.TheVariants.{Nothing, Data, Items, AUuid}
@@ -149,6 +150,12 @@ place_within l width all i = by (leb l.part.at all) (leb l.part.len (all - l.par
   by true true e f = by_within l.follows l.part l.len width all i (leb-true _ _ e) (leb-true _ _ f)
   by true false e f = tt
   by false b e f = tt
+
+-- by what the calls of the code answer
+pub found_att : (a : Att) (u : Uuid) (src : List ℕ) (l : Layout) (r : Raw) (p : Place) → l ≡ layout_of (show_att a) → r ≡ raw_of (on_air u)
+    → length r.bytes ≡ 16 → p ≡ place_of l r.len (length src) → Found (show_att a) u src l r p
+found_att a u src l r p e f n g =
+    record { laid_out = e; on_the_air = f; headed = ap (λ (k : Layout). head_bytes k.opcode k.fields) e ∙ heads a; sixteen = n; found = g }
 
 module _ (s : Shown) (u : Uuid) (src : List ℕ) (l : Layout) (r : Raw) (p : Place) (f : Found s u src l r p) where
   pub head_length : l.len ≡ length (shown_head s)

@@ -59,6 +59,7 @@ pub fn encode(att: Att, uuid: Uuid, src: &[u8], out: &mut [u8]) -> Written
 
 // The range and the values are tested, and that the length is a number. `width` is the length of the
 // UUID on air, `all` that of the received bytes.
+#[tactic(auto, unfolding(crate::specs::Place::place_of))]
 fn locate(l: Layout, width: usize, all: usize) -> Place
     ensures { result ≡ place_of l width all }
 {
@@ -81,6 +82,7 @@ fn locate(l: Layout, width: usize, all: usize) -> Place
 }
 
 // An incomplete last item is dropped.
+#[tactic(auto, unfolding(crate::specs::Place::items_place))]
 fn whole_items(n: usize, at: usize, len: usize, each: usize) -> Place
     ensures { result ≡ items_place n at len each }
 {
@@ -90,6 +92,7 @@ fn whole_items(n: usize, at: usize, len: usize, each: usize) -> Place
     fitting(n, at, len - len % each)
 }
 
+#[tactic(auto, unfolding(crate::specs::Place::fits))]
 fn fitting(n: usize, at: usize, len: usize) -> Place
     ensures { result ≡ fits n at len }
 {
@@ -100,6 +103,7 @@ fn fitting(n: usize, at: usize, len: usize) -> Place
 }
 
 // Only a UUID of 2 or 16 bytes is sent.
+#[tactic(auto, unfolding(crate::specs::Place::uuid_place))]
 fn uuid_place(width: usize) -> Place
     ensures { result ≡ uuid_place width }
 {
