@@ -38,6 +38,7 @@ use cursor::{ReadU16, remaining};
 use primitives::u8_at;
 
 // What bytes decode to; what is no packet is refused with InvalidValue.
+#[tactic(auto, using(crate::proofs::Rows::decoded_nil))]
 pub fn decode(src: &[u8]) -> Decoded
     ensures { result ≡ decoded src.now }
 {
@@ -80,6 +81,7 @@ pub fn data_len(src: &[u8], d: Span) -> Length
 
 // Opcode by opcode: how many bytes the fixed fields have, and the reader of the row. A data field's reader is
 // handed the bytes behind the fixed fields.
+#[tactic(auto, using(crate::proofs::Rows::rest_length, crate::proofs::Rows::minus_zero), unfolding(att::specs::Typed::row_decoded, att::specs::Wire::decodes, att::specs::Wire::shape_of, att::specs::Wire::rows, att::specs::Typed::build_of, att::specs::Typed::builds))]
 fn dispatch(op: u8, p: &[u8]) -> Decoded
     ensures { result ≡ row_decoded op p.now }
 {
