@@ -16,6 +16,7 @@ use codec::Refusal;
 
 // A table with no record, for areas of these lengths. A live area over 32,768 bytes is refused, with an
 // empty table for no bytes beside it.
+#[tactic(auto, unfolding(attributes::specs::Additions::new_table))]
 pub fn new(fixed: &[u8], live: &[u8]) -> Changed
     ensures { result ≡ new_table (length fixed.now) (length live.now) }
 {
@@ -80,6 +81,7 @@ pub fn add(t: Table, a: Addition, fixed: &[u8], live: &[u8]) -> Changed
 
 // An attribute's value, as a part of the fixed or of the live bytes. It is empty on a refusal, which
 // `lookup_refusal` tells.
+#[tactic(auto, unfolding(attributes::specs::Ledger::looked_up))]
 pub fn lookup<'a>(t: Table, handle: u16, fixed: &'a [u8], live: &'a [u8]) -> &'a [u8]
     ensures { result.now ≡ looked_up t handle fixed.now live.now }
 {
