@@ -45,6 +45,7 @@ pub fn may_write(t: Table, l: Link, handle: u16) -> Writable
 }
 
 // Storing a value of `len` bytes there: the same, and 0D where it is over the capacity.
+#[tactic(auto, unfolding(crate::specs::Permit::store_at))]
 pub fn may_store(t: Table, l: Link, handle: u16, len: usize) -> Permission
     ensures { result ≡ store_at l.encrypted handle len (entries t) }
 {
@@ -59,6 +60,7 @@ pub fn may_store(t: Table, l: Link, handle: u16, len: usize) -> Permission
     }
 }
 
+#[tactic(auto, unfolding(crate::specs::Permit::writable_by))]
 fn room(r: Record, encrypted: bool) -> Writable
     ensures { result ≡ writable_by encrypted r }
 {
