@@ -1,0 +1,3 @@
+pub mod Cursor
+pub mod Thin
+pub mod ThinN
