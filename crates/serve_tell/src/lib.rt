@@ -36,6 +36,7 @@ pub fn tell(rsp: AttRsp, src: &[u8], op: u8, out: &mut [u8]) -> Wrote
 }
 
 // An error: 01, the request's opcode, handle, code.
+#[tactic(auto, using(crate::specs::TellLaws::error_is))]
 pub fn error(op: u8, handle: u16, code: AttErrorCode, out: &mut [u8]) -> Wrote
     ensures value { result ≡ wrote_by (send (error_packet op handle code.value)) op (length out.old) }
     ensures out_after { out.new ≡ out_by (send (error_packet op handle code.value)) op out.old }
@@ -69,6 +70,7 @@ fn tell_unlikely(op: u8, out: &mut [u8]) -> Wrote
     }
 }
 
+#[tactic(auto, unfolding(crate::specs::Tell::encoded_of))]
 fn encode(rsp: AttRsp, src: &[u8], out: &mut [u8]) -> Written
     ensures value { result ≡ written_of (encoded_of rsp src.now) out.old }
     ensures out_after { out.new ≡ laid_of (encoded_of rsp src.now) out.old }
