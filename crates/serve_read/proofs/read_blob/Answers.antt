@@ -1,0 +1,29 @@
+-- The permission, then the offset, decide between the errors and the part of the value; each is the reply of the book.
+use Rattle.std.proofs.Common.{sym, ◌∙◌}
+use Rattle.serve_read.specs.ReadLaws.{blob_denied, blob_past, blob_allowed}
+use Rattle.serve_tell.specs.TellLaws.{tells_as}
+use Rattle.serve_read.proofs.read_blob.Goals as goal
+
+pub returns-in-Denied : goal.returns-in-Denied
+returns-in-Denied c =
+    let a = c.args in
+    let e = c.error.ensures in
+    let t = tells_as 0x0C a.out.now _ _ _ _ (e.value, e.out_after)
+    (blob_denied a.t a.link a.handle a.fixed.now a.live.now a.offset _ (sym c.may_read.ensures ∙ c.in-Denied.is)) in
+    record { value = t.0; out_after = t.1 }
+
+pub returns-then-value-at : goal.returns-then-value-at
+returns-then-value-at c =
+    let a = c.args in
+    let e = c.error-then-value-at.ensures in
+    let t = tells_as 0x0C a.out.now _ _ _ _ (e.value, e.out_after)
+    (blob_past a.t a.link a.handle a.fixed.now a.live.now a.offset _ (sym c.may_read.ensures ∙ c.in-Allowed.is) c.value_at-value.ensures c.if-value-at.true) in
+    record { value = t.0; out_after = t.1 }
+
+pub returns-else-value-at : goal.returns-else-value-at
+returns-else-value-at c =
+    let a = c.args in
+    let e = c.tell.ensures in
+    let t = tells_as 0x0C a.out.now _ _ _ _ (e.value, e.out_after)
+    (blob_allowed a.t a.link a.handle a.fixed.now a.live.now a.offset _ _ (sym c.may_read.ensures ∙ c.in-Allowed.is) c.value_at-value.ensures c.if-value-at.false c.cut-len.ensures) in
+    record { value = t.0; out_after = t.1 }
