@@ -1,5 +1,5 @@
 -- Document 01, "How a packet is served": a search a part at a time, as code goes about it. How far it is, and the bytes of the items
--- so far. GatherLaws.antt says that this is the search of the responder's book.
+-- so far. proofs/GatherLaws.antt says that this is the search of the responder's book.
 use Rattle.std.specs.Prelude.{ℕ, ◌+◌, ◌-◌, Bool, true, false, ◌&&◌, List, [], ◌∷◌, ◌++◌, length, leb, eqb}
 use Rattle.codec.specs.Buffer.{over, laid_at}
 use Rattle.codec.specs.Cases.{pick}

@@ -1,3 +1,2 @@
 pub mod Collect
 pub mod CollectLaws
-pub mod GatherLaws

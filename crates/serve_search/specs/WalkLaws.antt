@@ -23,7 +23,7 @@ use Rattle.answers.specs.Serve.{ledger}
 use Rattle.answers.specs.View.{View, view, views_of}
 use Rattle.answers.specs.declared.Link.{Link}
 use Rattle.serve_link.specs.LinkLaws.{legal_least, legal_most}
-use Rattle.serve_collect.specs.GatherLaws.{Ends, Fits, fold_keep, search_is}
+use Rattle.serve_collect.proofs.GatherLaws.{Ends, Fits, fold_keep, search_is}
 use Rattle.serve_collect.specs.CollectLaws.{head_most}
 use Rattle.serve_collect.specs.Collect.{Walk, head_of, taken, step, fold, found_by, shown_found, shown_on}
 use Rattle.serve_collect.specs.declared.Gathered.{Gathered}

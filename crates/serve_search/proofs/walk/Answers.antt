@@ -2,7 +2,7 @@
 use Rattle.std.proofs.Common.{◌≡◌, ◌+◌, length, map, take, drop, sym, ap, ◌∙◌, arith, rules}
 use Rattle.attributes.specs.ListLaws.{length_mapped}
 use Rattle.serve_collect.specs.Collect.{Walk, step, fold}
-use Rattle.serve_collect.specs.GatherLaws.{ended_stays}
+use Rattle.serve_collect.proofs.GatherLaws.{ended_stays}
 use Rattle.serve_search.specs.Search.{room_for}
 use Rattle.serve_search.specs.Walk.{given_by}
 use Rattle.serve_search.specs.WalkLaws.{walk_next}
