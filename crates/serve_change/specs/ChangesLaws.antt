@@ -1,17 +1,16 @@
 -- An answer that was told, with its effect, is what its reply says.
-use Rattle.std.specs.Prelude.{ℕ, min, max, Bool, ◌≡◌, List, [], ◌∷◌, length}
+use Rattle.std.specs.Prelude.{ℕ, min, max, Bool, ◌≡◌, List, [], ◌∷◌}
 use Rattle.std.proofs.Math.Bool.{true, false}
 use Rattle.std.proofs.Math.Path.{refl}
-use Rattle.std.proofs.Common.{sym, ap, ◌∙◌}
+use Rattle.std.proofs.Common.{ap, ◌∙◌}
 use Rattle.codec.specs.Cases.{pick}
-use Rattle.att.specs.Typed.{part_of, means_shown}
+use Rattle.att.specs.Typed.{means_shown}
 use Rattle.att.specs.Wire.{rows, shape_of, Coded, send, meaning}
 use Rattle.att.specs.declared.AttRsp.TheVariants as rsp
-use Rattle.serve_record.specs.declared.Permission.{Permission}
 use Rattle.answers.specs.Replies as book
 use Rattle.answers.specs.Replies.{Reply, exchange, error_packet}
 use Rattle.answers.specs.declared.Link.{Link}
-use Rattle.serve_tell.specs.Tell.{coded_of, wrote_by, out_by, packet_of}
+use Rattle.serve_tell.specs.Tell.{coded_of, wrote_by, packet_of}
 use Rattle.serve_tell.specs.declared.Wrote.{Wrote}
 use Rattle.serve_change.specs.Changes.{done, agreement, meant_by, meaning_of, said_of}
 use Rattle.serve_change.specs.declared.Pending.{Pending}
