@@ -1,10 +1,10 @@
 -- What a lent buffer holds once a packet's parts are written one behind the other: by the law of two writes, part after part.
 use Prim.Native.Nat.{ℕ, ◌+◌, ◌-◌, ◌≤◌}
-use mathlib.Core.Path.{◌≡◌, refl, sym, ap, subst, ◌∙◌}
+use mathlib.Core.Path.{◌≡◌, refl, ap, subst, ◌∙◌}
 use mathlib.Core.Bool.{Bool, true, false}
 use mathlib.Core.List.{List, [], ◌++◌, append_assoc}
 use native.Mathlib.Omega.{arith}
-use lib.ListN.{length, take, drop, length-append, take-append-drop}
+use lib.ListN.{length, length-append, take-append-drop}
 use lib.Dec.{leb}
 use Rattle.codec.specs.Cases.{pick}
 use Rattle.codec.specs.Buffer.{laid, written, over_at, laid_at}

@@ -1,6 +1,5 @@
 -- What the words of a request say, and the words of a refusal and of a number of four bytes.
-use Rattle.std.specs.Prelude.{ℕ, ◌/◌, ◌%◌, List, [], ◌∷◌, ◌++◌, take, drop, replicate, leb}
-use Rattle.bytes.specs.Bytes.{rev, slice}
+use Rattle.std.specs.Prelude.{ℕ, ◌/◌, ◌%◌, List, [], ◌∷◌, ◌++◌, reverse, take, drop, replicate, leb}
 use Rattle.codec.specs.Ascii.{ascii}
 use Rattle.codec.specs.Cases.{pick}
 use Rattle.codec.specs.Refusals.{refusal_number, refusal_of}
@@ -19,7 +18,7 @@ size_of TooLong = 0
 
 -- the first n bytes turned round
 abbrev pub turned : ℕ → List ℕ → List ℕ
-turned n b = pick (leb n 4) (take 0 b ++ (rev (slice 0 n b) ++ drop n b)) b
+turned n b = pick (leb n 4) (reverse (take n b) ++ drop n b) b
 
 abbrev pub little_of : List ℕ → List ℕ
 little_of word = turned (size_of (answered (hex_means word) 4)) (filled (hex_means word) (replicate 4 0))

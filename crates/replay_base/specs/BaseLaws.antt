@@ -1,8 +1,7 @@
 -- Laws of the words of a request and of a reply, in the shapes that the proofs of the code ask for.
-use Rattle.std.specs.Prelude.{ℕ, ◌≤◌, ◌<◌, ◌≡◌, List, [], ◌∷◌, ◌++◌, take, drop}
+use Rattle.std.specs.Prelude.{ℕ, ◌≤◌, ◌<◌, ◌≡◌, List, [], ◌∷◌, ◌++◌, reverse, take, drop}
 use Rattle.std.proofs.Common.{sym, le-leb}
 use Rattle.std.proofs.lemmas.Bool.{lt-leb}
-use Rattle.bytes.specs.Bytes.{rev, slice}
 use Rattle.codec.specs.Buffer.{laid_at}
 use Rattle.text_print.specs.Print.{placed}
 use Rattle.text_decimal.specs.Decimal.{decimal_text}
@@ -18,7 +17,7 @@ number_behind pos at r v n a b out m w e p q = rw (p.0, p.1, e) at q
 
 -- the digits of a number, turned round, and too many of them
 module _ (n k : ℕ) (b d : List ℕ) (e : n ≡ k) (f : b ≡ d) where
-  pub turned_round : (m : List ℕ) → n ≤ 4 → m ≡ take 0 b ++ (rev (slice 0 n b) ++ drop n b) → m ≡ turned k d
+  pub turned_round : (m : List ℕ) → n ≤ 4 → m ≡ reverse (take n b) ++ drop n b → m ≡ turned k d
   turned_round m h g = rw (sym e, sym f, le-leb n 4 h) g
 
   pub not_turned : 4 < n → b ≡ turned k d

@@ -28,6 +28,7 @@ pub fn bytes(word: &[u8], buf: &mut [u8]) -> usize
 }
 
 // A number in hexadecimal digits, its four bytes with the least significant first.
+#[tactic(auto, using(crate::specs::BaseLaws::turned_round, crate::specs::BaseLaws::not_turned))]
 pub fn little(word: &[u8]) -> [u8; 4]
     ensures { result ≡ little_of word.now }
 {
@@ -53,6 +54,7 @@ pub fn tail(word: &[u8]) -> &[u8]
 }
 
 // `!1` or `!2`, behind a text.
+#[tactic(auto, unfolding(text_put::specs::Put::behind, text_put::specs::Put::holding))]
 pub fn refused(out: &mut [u8], pos: usize, name: &[u8], e: Error) -> usize
     ensures value { result ≡ behind (refused_texts name.now e) pos out.old }
     ensures out_after { out.new ≡ holding (refused_texts name.now e) pos out.old }
@@ -62,6 +64,7 @@ pub fn refused(out: &mut [u8], pos: usize, name: &[u8], e: Error) -> usize
 }
 
 // A number of four bytes, as 8 digits.
+#[tactic(auto, unfolding(text_put::specs::Put::behind, text_put::specs::Put::holding))]
 pub fn double(out: &mut [u8], pos: usize, v: u32) -> usize
     ensures value { result ≡ behind (double_text v) pos out.old }
     ensures out_after { out.new ≡ holding (double_text v) pos out.old }
