@@ -2,7 +2,7 @@
 use Rattle.std.specs.Prelude.{ℕ, ◌-◌, ◌≤◌, ◌<◌, Bool, ◌&&◌, ◌≡◌, List, [], ◌∷◌, ◌++◌, length, take, drop, eqb}
 use Rattle.std.proofs.Math.Bool.{true, false, not}
 use Rattle.std.proofs.Math.Path.{refl, ap}
-use Rattle.std.proofs.Common.{sym, ◌∙◌, arith, length-append}
+use Rattle.std.proofs.Common.{◌∙◌, arith, length-append}
 use Rattle.std.proofs.Math.Dec.{leb}
 use borrow.Author.Tests.{le-leb, lt-leb}
 use Rattle.codec.specs.Buffer.{over}
@@ -11,7 +11,7 @@ use Rattle.codec.specs.CasesLaws.{join}
 use Rattle.primitives.specs.Numbers.{bytes_of}
 use Rattle.att.specs.Items.{joined}
 use Rattle.att.specs.Typed.{span, show_rsp, part_ok, means_shown}
-use Rattle.att.specs.Wire.{rows, shape_of, Meaning, meaning, Coded, send}
+use Rattle.att.specs.Wire.{rows, shape_of, Meaning, meaning, send}
 use Rattle.att.specs.declared.AttRsp.{AttRsp}
 use Rattle.att.specs.declared.Span.{Span}
 use Rattle.ble_uuid.specs.Uuids.{no_uuid}
