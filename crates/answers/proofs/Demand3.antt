@@ -19,8 +19,8 @@ use Rattle.attributes.specs.Ledger.{Item, holding, item, valued}
 use Rattle.attributes.specs.ListLaws.{map_as}
 use Rattle.attributes.specs.Records.{slot_of, entries, bare, skeleton, record_at}
 use Rattle.attributes.specs.Soundness.{record_ok, slots_end, records_ok}
-use Rattle.attributes.specs.SoundnessLaws.{good, sound_parts}
-use Rattle.attributes.specs.StoreLaws.{grown_slot}
+use Rattle.attributes.proofs.SoundnessLaws.{good, sound_parts}
+use Rattle.attributes.proofs.StoreLaws.{grown_slot}
 use Rattle.attributes.specs.Stores.{takes, put}
 use Rattle.attributes.specs.declared.Addition.{Addition}
 use Rattle.attributes.specs.declared.Outcome.{Outcome}

@@ -14,10 +14,10 @@ use Rattle.primitives.specs.Numbers.{number_at}
 use Rattle.att.specs.Wire.{meaning, rows, shape_of, strict, send}
 use Rattle.attributes.specs.FindLaws.{first_two}
 use Rattle.attributes.specs.Ledger.{Item, valued, value_at}
-use Rattle.attributes.specs.LedgerLaws.{put_here, put_other}
+use Rattle.attributes.proofs.LedgerLaws.{put_here, put_other}
 use Rattle.attributes.specs.Lists.{Each}
 use Rattle.attributes.specs.Records.{Kept}
-use Rattle.attributes.specs.StoreLaws as laws
+use Rattle.attributes.proofs.StoreLaws as laws
 use Rattle.attributes.specs.Stores.{takes, put, slot_refusal, store_refusal, live_by}
 use Rattle.attributes.specs.declared.Outcome.{Outcome}
 use Rattle.attributes.specs.declared.Outcome.TheVariants as outcome

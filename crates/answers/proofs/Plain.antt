@@ -14,14 +14,14 @@ use borrow.Author.Tests.{eqb-true, eq-eqb, ne_eqb}
 use Rattle.codec.specs.Cases.{pick}
 use Rattle.codec.specs.CasesLaws.{impossible, both}
 use Rattle.attributes.proofs.Built.{built_add}
-use Rattle.attributes.specs.AdditionLaws.{add_full}
+use Rattle.attributes.proofs.AdditionLaws.{add_full}
 use Rattle.attributes.specs.Additions.{add_refusal}
 use Rattle.attributes.specs.FindLaws.{first_map}
 use Rattle.attributes.specs.Ledger.{holding, item, value_at}
 use Rattle.attributes.specs.Records.{entries, bare, skeleton}
 use Rattle.attributes.specs.Soundness.{record_ok, slots_end, records_ok}
-use Rattle.attributes.specs.SoundnessLaws.{good, sound_parts}
-use Rattle.attributes.specs.StoreLaws.{grown_slot}
+use Rattle.attributes.proofs.SoundnessLaws.{good, sound_parts}
+use Rattle.attributes.proofs.StoreLaws.{grown_slot}
 use Rattle.attributes.specs.declared.Addition.{Addition}
 use Rattle.attributes.specs.declared.Record.{Record}
 use Rattle.attributes.specs.declared.Table.{Table}

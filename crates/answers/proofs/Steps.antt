@@ -8,7 +8,7 @@ use lib.ListN.{length}
 use Rattle.attributes.proofs.Built.{stored_skeleton, stored_full}
 use Rattle.attributes.specs.ListLaws.{length_map_first}
 use Rattle.attributes.specs.Records.{skeleton}
-use Rattle.attributes.specs.StoreLaws as laws
+use Rattle.attributes.proofs.StoreLaws as laws
 use Rattle.attributes.specs.Stores.{put, relength}
 use Rattle.attributes.specs.declared.Table.{Table}
 use Rattle.answers.specs.Replies.{Effect, Nothing, Stores, Agrees}

@@ -22,11 +22,11 @@ use Rattle.att.proofs.NoShift.{AllOf}
 use Rattle.att.specs.Items.{items_of, joined}
 use Rattle.att.specs.Proper.{Fields}
 use Rattle.att.specs.Wire as wire
-use Rattle.attributes.specs.AdditionLaws.{each_passed}
+use Rattle.attributes.proofs.AdditionLaws.{each_passed}
 use Rattle.attributes.specs.Ledger.{Item, item, value_at}
 use Rattle.attributes.specs.Records.{entries, bare}
 use Rattle.attributes.specs.Soundness.{type_ok, record_ok, slots_end, records_ok}
-use Rattle.attributes.specs.SoundnessLaws.{good, sound_parts}
+use Rattle.attributes.proofs.SoundnessLaws.{good, sound_parts}
 use Rattle.attributes.specs.declared.Outcome.{Outcome}
 use Rattle.attributes.specs.declared.Outcome.TheVariants.{Accepted, Refused}
 use Rattle.attributes.specs.declared.Record.{Record}

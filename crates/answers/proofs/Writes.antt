@@ -13,12 +13,12 @@ use Rattle.codec.specs.Cases.{pick}
 use Rattle.codec.specs.CasesLaws.{impossible, both}
 use Rattle.primitives.specs.Numbers.{number_at}
 use Rattle.att.specs.Wire.{meaning, rows, shape_of, shape_means, strict, send}
-use Rattle.attributes.specs.AdditionLaws.{each_passed}
+use Rattle.attributes.proofs.AdditionLaws.{each_passed}
 use Rattle.attributes.specs.FindLaws.{first_two, first_map}
 use Rattle.attributes.specs.Ledger.{Item, item}
 use Rattle.attributes.specs.Records.{Slot, Kept, Room, slot_of, slot_size, entries}
 use Rattle.attributes.specs.Soundness.{record_ok, slots_end, records_ok}
-use Rattle.attributes.specs.SoundnessLaws.{good, sound_parts, plain, plain_place}
+use Rattle.attributes.proofs.SoundnessLaws.{good, sound_parts, plain, plain_place}
 use Rattle.attributes.specs.Stores.{slot_refusal, store_refusal}
 use Rattle.attributes.specs.declared.Outcome.{Outcome}
 use Rattle.attributes.specs.declared.Outcome.TheVariants.{Accepted, Refused}

@@ -11,7 +11,7 @@ use borrow.Author.Tests.{leb-true, eqb-true}
 use Rattle.codec.specs.CasesLaws.{both}
 use Rattle.attributes.specs.Records.{slot_of, slot_size}
 use Rattle.attributes.specs.Soundness.{start_ok, space_ok, room_of, record_ok, slots_end, records_ok, sound_table}
-use Rattle.attributes.specs.SoundnessLaws.{good, sound_parts, rises_all}
+use Rattle.attributes.proofs.SoundnessLaws.{good, sound_parts, rises_all}
 use Rattle.attributes.specs.declared.Place.{Place}
 use Rattle.attributes.specs.declared.Place.TheVariants.{Fixed, Live}
 use Rattle.attributes.specs.declared.Record.{Record}

@@ -4,12 +4,12 @@ use Prim.Native.Nat.{ℕ, ◌+◌}
 use mathlib.Core.Path.{◌≡◌, refl, sym, ◌∙◌, ap}
 use mathlib.Core.List.{List, [], ◌∷◌, ◌++◌, map, map-append}
 use lib.ListN.{length}
-use Rattle.attributes.specs.AdditionLaws.{add_entries, refused_add}
+use Rattle.attributes.proofs.AdditionLaws.{add_entries, refused_add}
 use Rattle.attributes.specs.Additions.{changed_by, used, fresh, add_refusal, added, joins, layout}
 use Rattle.attributes.specs.ListLaws.{length_map_first}
 use Rattle.attributes.specs.Records.{Slot, entries, slot_size, bare, skeleton}
 use Rattle.attributes.specs.Soundness.{slots_end}
-use Rattle.attributes.specs.StoreLaws.{grown_slot, store_skeleton}
+use Rattle.attributes.proofs.StoreLaws.{grown_slot, store_skeleton}
 use Rattle.attributes.specs.Stores.{relength, relengthed, own_refusal, stored}
 use Rattle.attributes.specs.declared.Addition.{Addition}
 use Rattle.attributes.specs.declared.Outcome.{Outcome}

@@ -11,7 +11,7 @@ use Rattle.attributes.specs.Ledger.{Item, ledger_of, item_at, lookup_refusal, lo
 use Rattle.attributes.specs.Marks.{unmarked, without_marks}
 use Rattle.attributes.specs.Records.{entries, slot_of, value_of, record_at}
 use Rattle.attributes.specs.Soundness.{sound_table}
-use Rattle.attributes.specs.StoreLaws.{own_tests_lem}
+use Rattle.attributes.proofs.StoreLaws.{own_tests_lem}
 use Rattle.attributes.specs.Stores.{slot_refusal, own_refusal}
 use Rattle.attributes.specs.declared.Outcome.TheVariants.{Accepted, Refused}
 use Rattle.attributes.specs.declared.Place.{Place}

@@ -12,8 +12,8 @@ use Rattle.codec.specs.Buffer.{over_at}
 use Rattle.attributes.specs.ListLaws.{over_at_before, over_at_behind}
 use Rattle.attributes.specs.Records.{entries, slot_of, fits, start}
 use Rattle.attributes.specs.Soundness.{sound_table}
-use Rattle.attributes.specs.SoundnessLaws.{sound_parts}
-use Rattle.attributes.specs.StoreLaws.{store_lays}
+use Rattle.attributes.proofs.SoundnessLaws.{sound_parts}
+use Rattle.attributes.proofs.StoreLaws.{store_lays}
 use Rattle.attributes.specs.Stores.{written_live}
 use Rattle.attributes.specs.declared.Place.{Place}
 use Rattle.attributes.specs.declared.Place.TheVariants.{Fixed, Live}

@@ -1,3 +1,7 @@
+pub mod SoundnessLaws
+pub mod StoreLaws
+pub mod LedgerLaws
+pub mod AdditionLaws
 pub mod Apart
 pub mod Kept
 pub mod Built

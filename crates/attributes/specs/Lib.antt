@@ -5,10 +5,6 @@ pub mod Ledger
 pub mod Additions
 pub mod Stores
 pub mod ListLaws
-pub mod SoundnessLaws
-pub mod StoreLaws
-pub mod LedgerLaws
 pub mod FindLaws
-pub mod AdditionLaws
 pub mod Examples
 pub mod Marks

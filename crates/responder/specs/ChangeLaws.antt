@@ -3,7 +3,7 @@
 use Rattle.std.specs.Prelude.{ℕ, Bool, true, false, ◌≡◌, refl, List, length}
 use Rattle.std.proofs.Common.{sym, ◌∙◌, subst}
 use Rattle.std.proofs.Math.Path.{ap}
-use Rattle.attributes.specs.StoreLaws.{own_store_lem}
+use Rattle.attributes.proofs.StoreLaws.{own_store_lem}
 use Rattle.attributes.specs.Stores.{stored, stored_live}
 use Rattle.attributes.specs.declared.Changed.{Changed}
 use Rattle.attributes.specs.declared.Table.{Table}

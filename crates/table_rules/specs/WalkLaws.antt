@@ -8,7 +8,7 @@ use Rattle.codec.specs.Cases.{pick}
 use Rattle.attributes.specs.Additions.{last_handle, used}
 use Rattle.attributes.specs.Records.{entries, slot_of, slot_size}
 use Rattle.attributes.specs.Soundness.{value_ok, space_ok, record_ok, slots_end, records_ok, sound_table}
-use Rattle.attributes.specs.SoundnessLaws.{good, slot_inside}
+use Rattle.attributes.proofs.SoundnessLaws.{good, slot_inside}
 use Rattle.attributes.specs.declared.Record.{Record}
 use Rattle.attributes.specs.declared.Room as asked
 use Rattle.attributes.specs.declared.Room.TheVariants as room

@@ -15,8 +15,8 @@ use Rattle.attributes.specs.FindLaws.{item_first, missing_gives, found_below, fo
 use Rattle.attributes.specs.Ledger.{Item, ledger_of}
 use Rattle.attributes.specs.Records.{Slot, Kept, Room, entries, slot_of, fits, start, lengthened, find_in}
 use Rattle.attributes.specs.Soundness.{sound_table}
-use Rattle.attributes.specs.SoundnessLaws.{Sound, sound_parts}
-use Rattle.attributes.specs.StoreLaws.{store_sets, store_lays, own_tests_lem}
+use Rattle.attributes.proofs.SoundnessLaws.{Sound, sound_parts}
+use Rattle.attributes.proofs.StoreLaws.{store_sets, store_lays, own_tests_lem}
 use Rattle.attributes.specs.Stores.{relengthed, written_live, slot_refusal, store_refusal, stored, live_by, stored_live}
 use Rattle.attributes.proofs.Apart.{Ends, slots_inside}
 use Rattle.attributes.specs.declared.Changed.{Changed}

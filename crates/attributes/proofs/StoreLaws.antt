@@ -18,7 +18,7 @@ use Rattle.attributes.specs.Ledger.{Item, holding, item, ledger_of, valued}
 use Rattle.attributes.specs.ListLaws.{map_as, take_map_first, over_at_length, over_at_there, over_at_before, over_at_behind, part_of_front, part_of_back}
 use Rattle.attributes.specs.Records.{Slot, Kept, Room, entries, value_of, slot_of, slot_size, fits, is_room, start, grown, lengthened, bare, skeleton}
 use Rattle.attributes.specs.Soundness.{count_ok, live_ok, areas_ok, space_ok, start_ok, length_ok, room_of, record_ok, slots_end, records_ok, sound_table}
-use Rattle.attributes.specs.SoundnessLaws.{Good, good, good_ok, sound_parts, rises_all}
+use Rattle.attributes.proofs.SoundnessLaws.{Good, good, good_ok, sound_parts, rises_all}
 use Rattle.attributes.specs.Stores.{present, storable, roomy, store_tests, takes, relength, map_first, relengthed, written_live, put, slot_refusal, store_refusal, own_refusal, stored, live_by, stored_live}
 use Rattle.attributes.specs.declared.Outcome.{Outcome}
 use Rattle.attributes.specs.declared.Outcome.TheVariants.{Accepted, Refused}

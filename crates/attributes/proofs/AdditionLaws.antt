@@ -14,11 +14,10 @@ use Rattle.attributes.specs.Lists.{Each}
 use Rattle.attributes.specs.Ledger.{Item, item, ledger_of}
 use Rattle.attributes.specs.Records.{entries}
 use Rattle.attributes.specs.Soundness.{count_ok, live_ok, areas_ok, handle_ok, type_ok, value_ok, space_ok, start_ok, length_ok, room_of, record_ok, slots_end, records_ok, sound_table}
-use Rattle.attributes.specs.SoundnessLaws.{Good, good_ok}
+use Rattle.attributes.proofs.SoundnessLaws.{Good, good_ok}
 use Rattle.attributes.specs.declared.Addition.{Addition}
 use Rattle.attributes.specs.declared.Outcome.{Outcome}
 use Rattle.attributes.specs.declared.Outcome.TheVariants.{Accepted, Refused}
-use Rattle.attributes.specs.declared.Place.TheVariants.{Fixed, Live}
 use Rattle.attributes.specs.declared.Record.{Record}
 use Rattle.attributes.specs.declared.Room as asked
 use Rattle.attributes.specs.declared.Room.TheVariants as room
