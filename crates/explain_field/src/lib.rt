@@ -11,6 +11,7 @@ ghost use Rattle.explain_field.specs.Fields.{fielded, pair_texts, value_texts};
 use att::Span;
 
 // A text and the bytes of a data field.
+#[tactic(auto, unfolding(text_put::specs::Put::behind, text_put::specs::Put::holding))]
 pub fn part(out: &mut [u8], pos: usize, name: &[u8], src: &[u8], d: Span) -> usize
     ensures value { result ≡ behind (fielded name.now d src.now) pos out.old }
     ensures out_after { out.new ≡ holding (fielded name.now d src.now) pos out.old }
@@ -19,6 +20,7 @@ pub fn part(out: &mut [u8], pos: usize, name: &[u8], src: &[u8], d: Span) -> usi
 }
 
 // Two numbers of two bytes, each behind its text.
+#[tactic(auto, unfolding(text_put::specs::Put::behind, text_put::specs::Put::holding))]
 pub fn two(out: &mut [u8], pos: usize, name: &[u8], v: u16, second: &[u8], w: u16) -> usize
     ensures value { result ≡ behind (pair_texts name.now v second.now w) pos out.old }
     ensures out_after { out.new ≡ holding (pair_texts name.now v second.now w) pos out.old }
@@ -28,6 +30,7 @@ pub fn two(out: &mut [u8], pos: usize, name: &[u8], v: u16, second: &[u8], w: u1
 }
 
 // A handle, and the bytes of its value.
+#[tactic(auto, unfolding(text_put::specs::Put::behind, text_put::specs::Put::holding))]
 pub fn value(out: &mut [u8], pos: usize, name: &[u8], handle: u16, src: &[u8], d: Span) -> usize
     ensures value { result ≡ behind (value_texts name.now handle d src.now) pos out.old }
     ensures out_after { out.new ≡ holding (value_texts name.now handle d src.now) pos out.old }
