@@ -14,6 +14,7 @@ use explain_field::{part, two, value};
 use text_put::{byte, kind, word};
 
 // The first and the last handle of a range, as the two finds name them.
+#[tactic(auto, unfolding(text_put::specs::Put::behind, text_put::specs::Put::holding))]
 fn range(out: &mut [u8], pos: usize, name: &[u8], start: u16, end: u16) -> usize
     ensures value { result ≡ behind (range_texts name.now start end) pos out.old }
     ensures out_after { out.new ≡ holding (range_texts name.now start end) pos out.old }
@@ -22,6 +23,7 @@ fn range(out: &mut [u8], pos: usize, name: &[u8], start: u16, end: u16) -> usize
 }
 
 // The type and the value that are looked for.
+#[tactic(auto, unfolding(text_put::specs::Put::behind, text_put::specs::Put::holding))]
 fn sought(out: &mut [u8], pos: usize, kind: u16, src: &[u8], d: Span) -> usize
     ensures value { result ≡ behind (sought_texts kind d src.now) pos out.old }
     ensures out_after { out.new ≡ holding (sought_texts kind d src.now) pos out.old }
@@ -83,6 +85,7 @@ fn request(r: AttReq, uuid: Uuid, src: &[u8], out: &mut [u8], at: usize) -> usiz
     }
 }
 
+#[tactic(auto, unfolding(text_put::specs::Put::behind, text_put::specs::Put::holding))]
 fn command(c: AttCmd, src: &[u8], out: &mut [u8]) -> usize
     ensures value { result ≡ behind (command_texts c src.now) 0 out.old }
     ensures out_after { out.new ≡ holding (command_texts c src.now) 0 out.old }
@@ -91,6 +94,7 @@ fn command(c: AttCmd, src: &[u8], out: &mut [u8]) -> usize
     value(out, 0, b"client command Write handle=", c.handle, src, data)
 }
 
+#[tactic(auto, unfolding(text_put::specs::Put::behind, text_put::specs::Put::holding))]
 fn confirmation(f: AttCfm, out: &mut [u8]) -> usize
     ensures value { result ≡ behind (confirmation_texts f) 0 out.old }
     ensures out_after { out.new ≡ holding (confirmation_texts f) 0 out.old }
