@@ -1,6 +1,6 @@
 -- Decoding by the first byte: nothing is refused, and so is an opcode of no row. How many bytes there are behind the fixed fields.
 use Prim.Native.Nat.{ℕ, ◌+◌, ◌-◌, ◌<◌}
-use mathlib.Core.Path.{◌≡◌, refl, sym, ap, ◌∙◌}
+use mathlib.Core.Path.{◌≡◌, refl, ap, ◌∙◌}
 use mathlib.Core.List.{List, [], ◌∷◌}
 use native.Mathlib.Omega.{arith}
 use lib.ListN.{length, drop, get_or, length-drop}

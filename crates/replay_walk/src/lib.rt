@@ -199,6 +199,7 @@ fn write_step(word: &[u8], pos: usize, data: &mut [u8], out: &mut [u8], at: usiz
 }
 
 // Whether a walk's steps end here: there are no more words, or the reply that is wanted begins.
+#[tactic(auto, using(crate::specs::WalksLaws::no_word, crate::specs::WalksLaws::some_word))]
 fn ends(word: &[u8]) -> bool
     ensures { result ≡ end_of word.now }
 {
@@ -220,6 +221,7 @@ fn joined(out: &mut [u8], at: usize) -> usize
 }
 
 // `@POSITION/AVAILABLE`.
+#[tactic(auto, unfolding(text_put::specs::Put::behind, text_put::specs::Put::holding))]
 fn place(out: &mut [u8], at: usize, pos: usize, data: &[u8]) -> usize
     ensures value { result ≡ behind (place_texts pos (length «data».now)) at out.old }
     ensures out_after { out.new ≡ holding (place_texts pos (length «data».now)) at out.old }
