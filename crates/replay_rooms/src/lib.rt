@@ -27,6 +27,7 @@ fn call(asked: Asked, u: Uuid, src: &[u8], out: &mut [u8]) -> Written {
 }
 
 // Whether all bytes are v.
+#[tactic(auto, using(crate::specs::RoomsLaws::all_more, crate::specs::RoomsLaws::all_fails, crate::specs::RoomsLaws::all_end))]
 fn all(bytes: &[u8], v: u8) -> bool
     ensures { result ≡ all_of v bytes.now }
 {
@@ -41,6 +42,7 @@ fn all(bytes: &[u8], v: u8) -> bool
 }
 
 // Whether a call on bytes v refused with this number and wrote nothing.
+#[tactic(auto, using(crate::specs::RoomsLaws::other_number, crate::specs::RoomsLaws::this_number))]
 fn untouched(w: Written, number: u8, out: &[u8], v: u8) -> bool
     ensures { result ≡ untouched_of w number out.now v }
 {
@@ -56,6 +58,7 @@ fn untouched(w: Written, number: u8, out: &[u8], v: u8) -> bool
 }
 
 // Whether a call on bytes v wrote these bytes and nothing behind them.
+#[tactic(auto, using(crate::specs::RoomsLaws::other_length, crate::specs::RoomsLaws::other_bytes, crate::specs::RoomsLaws::these_bytes))]
 fn written(w: Written, full: &[u8], out: &[u8], v: u8) -> bool
     ensures { result ≡ wrote_of w full.now out.now v }
 {
@@ -134,6 +137,7 @@ fn writing(asked: Asked, u: Uuid, src: &[u8], full: &[u8], from: usize, most: us
 }
 
 // A text and ROOMS.
+#[tactic(auto, unfolding(text_put::specs::Put::behind, text_put::specs::Put::holding))]
 fn rooms(out: &mut [u8], pos: usize, name: &[u8], untouched: usize, encoded: usize) -> usize
     ensures value { result ≡ behind (rooms_texts name.now untouched encoded) pos out.old }
     ensures out_after { out.new ≡ holding (rooms_texts name.now untouched encoded) pos out.old }
