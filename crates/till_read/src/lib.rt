@@ -129,6 +129,7 @@ fn table_name(word: &[u8]) -> Name
     named(is(word, b"add"), Name::Add, other)
 }
 
+#[tactic(auto, unfolding(crate::specs::Commands::name_of))]
 fn name_of(word: &[u8]) -> Name
     ensures { result ≡ name_of word.now }
 {
@@ -177,6 +178,7 @@ fn behind_of(name: Name) -> usize
 }
 
 // A line by the lengths of the last word that it must have and of the one behind it.
+#[tactic(auto, unfolding(crate::specs::Commands::counted))]
 fn counted_words(last: usize, behind: usize) -> Shape
     ensures { result ≡ counted last behind }
 {
@@ -242,6 +244,7 @@ fn plain(command: Command) -> Order
 }
 
 // A command, where its HEX is one, of up to `limit` bytes.
+#[tactic(auto, unfolding(crate::specs::Commands::hex_command))]
 fn hex_command(command: Command, limit: usize, h: Hex) -> Command
     ensures { result ≡ hex_command command limit h }
 {
@@ -280,6 +283,7 @@ fn with_bytes(command: Command, line: &[u8], k: usize, limit: usize, bytes: &mut
     }
 }
 
+#[tactic(auto, unfolding(crate::specs::Commands::live_command))]
 fn live_command(n: Number) -> Command
     ensures { result ≡ live_command n }
 {
@@ -294,6 +298,7 @@ fn live_command(n: Number) -> Command
     }
 }
 
+#[tactic(auto, unfolding(crate::specs::Commands::output_command))]
 fn output_command(n: Number) -> Command
     ensures { result ≡ output_command n }
 {
@@ -309,6 +314,7 @@ fn output_command(n: Number) -> Command
 }
 
 // A link of this MTU. A number that no MTU is, is no number.
+#[tactic(auto, unfolding(crate::specs::Commands::mtu_command))]
 fn mtu_command(n: Number, encrypted: bool, exchanged: bool) -> Command
     ensures { result ≡ mtu_command n encrypted exchanged }
 {
@@ -517,6 +523,7 @@ fn add(line: &[u8]) -> Order
 }
 
 // A line of a name and as many words as its command takes.
+#[tactic(auto, unfolding(crate::specs::Commands::words_of, crate::specs::Commands::words_bytes))]
 fn words(name: Name, line: &[u8], bytes: &mut [u8]) -> Order
     ensures value { result ≡ words_of name line.now (length bytes.old) }
     ensures bytes_after { bytes.new ≡ words_bytes name line.now bytes.old }
@@ -537,6 +544,7 @@ fn words(name: Name, line: &[u8], bytes: &mut [u8]) -> Order
 }
 
 // The command of a line that is neither blank nor a comment.
+#[tactic(auto, unfolding(crate::specs::Commands::read_of, crate::specs::Commands::read_bytes))]
 pub fn read(line: &[u8], bytes: &mut [u8]) -> Order
     ensures value { result ≡ read_of line.now (length bytes.old) }
     ensures bytes_after { bytes.new ≡ read_bytes line.now bytes.old }
