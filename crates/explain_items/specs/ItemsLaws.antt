@@ -13,11 +13,10 @@ use Rattle.primitives.specs.Numbers.{number_at}
 use Rattle.ble_uuid.specs.Uuids.{uuid_of}
 use Rattle.att.specs.declared.Span.{Span}
 use Rattle.att.specs.declared.Att.{Att}
-use Rattle.att_items.specs.Iterators.{pair_of, information_of, value_of, rest_of, walk, onward}
+use Rattle.att_items.specs.Iterators.{pair_of, information_of, value_of, rest_of, walk}
 use Rattle.att_items.specs.declared.Step.{Step}
 use Rattle.att_items.specs.declared.Step.TheVariants.{Item, End}
 use Rattle.att_items.specs.declared.HandlePair.TheVariants as handlePair
-use Rattle.att_items.specs.declared.HandleUuid.{HandleUuid}
 use Rattle.att_items.specs.declared.HandleUuid.TheVariants as handleUuid
 use Rattle.att_items.specs.declared.Information.{Information}
 use Rattle.att_items.specs.declared.HandleValue.TheVariants as handleValue
