@@ -1,11 +1,10 @@
 -- The texts of a packet that is known, and that every error's text has room in 256 bytes, in the shapes that the proofs of the code ask for.
-use Rattle.std.specs.Prelude.{ℕ, ◌+◌, ◌≤◌, ◌≡◌, refl, Bool, true, false, ◌&&◌, List, [], ◌∷◌, ◌++◌, length, replicate, leb, ltb, eqb}
+use Rattle.std.specs.Prelude.{ℕ, ◌≡◌, refl, Bool, true, false, ◌&&◌, List, [], ◌∷◌, length, replicate, leb, eqb}
 use Rattle.std.proofs.Common.{arith, length-append, le-leb}
 use Rattle.codec.specs.Buffer.{written}
 use Rattle.codec.specs.Cases.{pick, lookup}
 use Rattle.codec.specs.CasesLaws.{both}
 use Rattle.codec.specs.declared.Error.{Error}
-use Rattle.codec.specs.declared.Written.{Written}
 use Rattle.codec.specs.declared.Written.TheVariants.{Refused}
 use Rattle.text_decimal.specs.DecimalLaws.{decimal_most}
 use Rattle.att.specs.declared.Att.{Att}
