@@ -1,5 +1,5 @@
 -- What a till holds after a call, in the shapes that the proofs of the code ask for.
-use Rattle.std.specs.Prelude.{ℕ, ◌-◌, min, ◌≡◌, refl, false, List, [], ◌∷◌, ◌++◌, length, take, drop}
+use Rattle.std.specs.Prelude.{ℕ, ◌-◌, min, ◌≡◌, false, List, [], ◌++◌, length, take, drop}
 use Rattle.std.proofs.Common.{sym, arith}
 use Rattle.answers.specs.Serve.{first_link}
 use Rattle.answers.specs.declared.Link.{Link}

@@ -29,6 +29,7 @@ pub struct Moved {
 }
 
 // No bytes, a new table for none, a link at its first MTU, and an output of 247 bytes.
+#[tactic(auto, unfolding(attributes::specs::Additions::new_table))]
 pub fn start() -> Till
     ensures { result ≡ first_till }
 {
