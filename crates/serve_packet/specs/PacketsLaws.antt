@@ -1,20 +1,20 @@
 -- The way of a packet through its tests: each way's answer is the reply of the book. First the requests, then what gets no answer.
-use Rattle.std.specs.Prelude.{ℕ, ◌-◌, ◌+◌, ◌≤◌, ◌<◌, Bool, ◌&&◌, ◌≡◌, take, drop, get_or, eqb}
+use Rattle.std.specs.Prelude.{ℕ, ◌-◌, ◌≤◌, ◌<◌, Bool, ◌&&◌, ◌≡◌, take, drop, get_or, eqb}
 use Rattle.std.proofs.Math.Bool.{true, false}
 use Rattle.std.proofs.Math.Path.{refl, sym, ap}
-use Rattle.std.proofs.Common.{◌∙◌, subst, arith, length-drop, take_all, le-leb, eqb-true}
+use Rattle.std.proofs.Common.{◌∙◌, subst, arith, length-drop, take_all, le-leb}
 use mathlib.Core.List.{List, [], ◌∷◌, map}
 use Rattle.std.proofs.Math.ListN.{length}
 use Rattle.std.proofs.Math.Dec.{leb}
 use Rattle.std.proofs.lemmas.Bool.{lt-leb}
 use Rattle.codec.specs.Cases.{pick, lookup}
-use Rattle.codec.specs.CasesLaws.{impossible, both}
+use Rattle.codec.specs.CasesLaws.{impossible}
 use Rattle.codec.specs.declared.Error.{Error}
 use Rattle.ble_uuid.specs.declared.Uuid.{Uuid}
 use Rattle.att.proofs.RoundTrip.{strict_decodes}
 use Rattle.att.proofs.TypedMeans.{decoded_means}
-use Rattle.att.specs.Typed.{builds, build_of, row_decoded, decoded, show_req, show_server, show_client, show_att, part_of, means_shown, meaning_of, read_of}
-use Rattle.att.specs.Wire.{first, rows, shape_of, decodes, strict, Meaning, meaning, shape_means, Read, Means, NotRead, read}
+use Rattle.att.specs.Typed.{builds, build_of, row_decoded, decoded, show_req, show_server, show_att, part_of, means_shown, meaning_of, read_of}
+use Rattle.att.specs.Wire.{first, rows, shape_of, strict, Meaning, meaning, shape_means, Read, Means, NotRead, read}
 use Rattle.att.specs.declared.Parsed.{Parsed}
 use Rattle.att.specs.declared.Parsed.TheVariants.{Packet, Refused}
 use Rattle.att.specs.declared.Att.{Att}
@@ -32,7 +32,6 @@ use Rattle.att.specs.declared.AttUns.TheVariants as uns
 use Rattle.attributes.specs.Records.{entries}
 use Rattle.attributes.specs.declared.Table.{Table}
 use Rattle.answers.specs.Contract.{views_for}
-use Rattle.answers.specs.Replies as book
 use Rattle.answers.specs.Replies.{Reply, Effect, Nothing, Silence, Row, Serves, NotServed, doing, only, error, nth, served, row_reply, request, quietly, commanded, command, write, link_ok}
 use Rattle.answers.specs.Serve.{ledger}
 use Rattle.answers.specs.View.{View}

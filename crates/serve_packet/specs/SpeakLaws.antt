@@ -1,6 +1,6 @@
 -- Every request is answered by a packet; what was told is what is heard; and the four refusals come first.
 use Prim.Native.Nat.{ℕ, ◌≤◌, ◌<◌}
-use Rattle.std.specs.Prelude.{Bool, ◌&&◌, ◌≡◌, refl, length, leb}
+use Rattle.std.specs.Prelude.{Bool, ◌≡◌, refl, length, leb}
 use Rattle.std.proofs.Math.Bool.{true, false}
 use Rattle.std.proofs.Math.Path.{sym, ap}
 use Rattle.std.proofs.Common.{◌∙◌, subst, arith}
@@ -12,15 +12,12 @@ use Rattle.codec.specs.declared.Refusal.{Refusal}
 use Rattle.codec.specs.declared.Refusal.TheVariants.{InsufficientSpace, InvalidValue, BadTable, BadLink}
 use Rattle.att.specs.Wire.{first, rows, shape_of, shape_means, Coded, Sent, NotSent, send}
 use Rattle.attributes.specs.Soundness.{sound_table}
-use Rattle.attributes.specs.declared.Outcome.{Outcome}
 use Rattle.attributes.specs.declared.Outcome.TheVariants as outcome
 use Rattle.attributes.specs.declared.Table.{Table}
 use Rattle.answers.specs.Contract.{views_for, answer_of, out_after}
-use Rattle.answers.specs.Replies as book
-use Rattle.answers.specs.Replies.{Says, Packet, Silence, Effect, Nothing, Reply, doing, error, request, silent, reply_to, link_ok}
+use Rattle.answers.specs.Replies.{Says, Packet, Silence, Effect, Nothing, Reply, doing, error, silent, reply_to, link_ok}
 use Rattle.answers.proofs.ReplyLaws.{by_exchange, by_write, by_packets, by_request}
-use Rattle.answers.specs.Serve as till
-use Rattle.answers.specs.Serve.{State, sound, views, Bytes, unlikely, coded_heard, coded_does, spoken, does, serve_refusal, heard_by, effect_by, answered, asks}
+use Rattle.answers.specs.Serve.{State, sound, views, Bytes, unlikely, coded_heard, coded_does, spoken, does, serve_refusal, answered, asks}
 use Rattle.answers.specs.View.{View}
 use Rattle.answers.specs.declared.Answer.{Answer}
 use Rattle.answers.specs.declared.Answer.TheVariants as answer

@@ -108,6 +108,7 @@ fn reply<'a>(
     }
 }
 
+#[tactic(auto, unfolding(answers::specs::Replies::silent))]
 fn silent(op: u8) -> bool
     ensures { result ≡ book.silent op }
 {
@@ -197,6 +198,7 @@ fn request<'a>(
 }
 
 // The requests that are served.
+#[tactic(auto, unfolding(crate::specs::Packets::served_op, crate::specs::Packets::served_ops, answers::specs::Replies::served))]
 fn served(op: u8) -> bool
     ensures { result ≡ served_op op }
 {
