@@ -6,16 +6,13 @@ use Rattle.codec.specs.Ascii.{ascii}
 use Rattle.codec.specs.Refusals.{refusal_of}
 use Rattle.codec.specs.declared.Error.{Error}
 use Rattle.codec.specs.declared.Error.TheVariants.{InsufficientSpace, InvalidValue}
-use Rattle.codec.specs.declared.Written.{Written}
 use Rattle.codec.specs.declared.Written.TheVariants as wrote
 use Rattle.ble_uuid.specs.declared.Uuid.{Uuid}
 use Rattle.att.specs.Wire.{Coded, Sent, NotSent, strict}
 use Rattle.att.specs.Typed.{decoded, length_of, written_of, laid_of}
 use Rattle.att.specs.declared.Att.{Att}
 use Rattle.att.specs.declared.Decoded.{Decoded}
-use Rattle.att.specs.declared.Length.{Length}
 use Rattle.att.specs.declared.Length.TheVariants as counted
-use Rattle.att.specs.declared.Parsed.{Parsed}
 use Rattle.att.specs.declared.Parsed.TheVariants as parsed
 use Rattle.text_put.specs.Put.{first_of, counting, hexed, refusal}
 use Rattle.text_put.specs.PutLaws.{Wrote, stands}
