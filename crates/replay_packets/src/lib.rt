@@ -32,6 +32,7 @@ fn rooms(att: Att, u: Uuid, src: &[u8], out: &mut [u8], pos: usize) -> usize {
 }
 
 // ` at=START+LENGTH`, the place of a data field.
+#[tactic(auto, unfolding(text_put::specs::Put::behind, text_put::specs::Put::holding))]
 fn place(out: &mut [u8], pos: usize, src: &[u8], d: Span) -> usize
     ensures value { result ≡ behind (place_texts d src.now) pos out.old }
     ensures out_after { out.new ≡ holding (place_texts d src.now) pos out.old }

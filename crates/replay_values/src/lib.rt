@@ -125,6 +125,7 @@ pub fn encoded(line: &[u8], out: &mut [u8]) -> usize
 }
 
 // All sixteen bytes, and how many of them count.
+#[tactic(auto, unfolding(text_put::specs::Put::behind, text_put::specs::Put::holding))]
 fn raw(out: &mut [u8], pos: usize, r: Raw) -> usize
     ensures value { result ≡ behind (raw_said r) pos out.old }
     ensures out_after { out.new ≡ holding (raw_said r) pos out.old }
@@ -134,6 +135,7 @@ fn raw(out: &mut [u8], pos: usize, r: Raw) -> usize
     text_put::count(out, at, b"/", r.len as u64)
 }
 
+#[tactic(auto, using(crate::specs::ValuesLaws::short_as))]
 fn short(out: &mut [u8], pos: usize, u: Uuid) -> usize
     ensures value { result ≡ behind (short_said (short_of u)) pos out.old }
     ensures out_after { out.new ≡ holding (short_said (short_of u)) pos out.old }

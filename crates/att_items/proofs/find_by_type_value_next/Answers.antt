@@ -1,6 +1,5 @@
 -- The item found lies within the received bytes, and its bytes are read by the function of one item.
-use Rattle.std.proofs.Common.{ℕ, ◌<◌, ◌^◌, List, arith, drop, length, refl, rules, ◌∙◌}
-use Rattle.cursor.specs.ReadingLaws.{rest_drop}
+use Rattle.std.proofs.Common.{ℕ, List, arith, refl, ◌∙◌}
 use Rattle.att.specs.Typed.{show_att}
 use Rattle.att_items.specs.Iterators.{pair_of, pair_at}
 use Rattle.att_items.specs.declared.Step.{Step}

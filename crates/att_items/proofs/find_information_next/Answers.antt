@@ -1,10 +1,9 @@
 -- The item found lies within the received bytes, and its bytes are read by the function of one item.
-use Rattle.std.proofs.Common.{ℕ, ◌<◌, ◌^◌, List, arith, drop, length, refl, rules, ◌∙◌}
-use Rattle.cursor.specs.ReadingLaws.{rest_drop}
+use Rattle.std.proofs.Common.{ℕ, List, arith, refl, ◌∙◌}
 use Rattle.att.specs.Typed.{show_att}
 use Rattle.att_items.specs.Iterators.{information_of, information_at}
 use Rattle.att_items.specs.declared.Step.{Step}
-use Rattle.att_items.proofs.StepLaws.{cut_item, of_item, pair_length}
+use Rattle.att_items.proofs.StepLaws.{cut_item, of_item}
 use Rattle.att_items.proofs.find_information_next.Goals as goal
 
 pub information_at-requires : goal.information_at-requires

@@ -1,10 +1,9 @@
 -- The item found lies within the received bytes, and its bytes are read by the function of one item.
-use Rattle.std.proofs.Common.{ℕ, ◌<◌, ◌^◌, List, arith, drop, length, refl, rules, ◌∙◌}
-use Rattle.cursor.specs.ReadingLaws.{rest_drop}
+use Rattle.std.proofs.Common.{ℕ, ◌<◌, ◌^◌, List, arith, length, refl, rules, ◌∙◌}
 use Rattle.att.specs.Typed.{show_att}
 use Rattle.att_items.specs.Iterators.{value_of, value_at}
 use Rattle.att_items.specs.declared.Step.{Step}
-use Rattle.att_items.proofs.StepLaws.{cut_item, of_item, pair_length}
+use Rattle.att_items.proofs.StepLaws.{cut_item, of_item}
 use Rattle.att_items.proofs.read_by_type_next.Goals as goal
 
 pub value_at-requires : goal.value_at-requires

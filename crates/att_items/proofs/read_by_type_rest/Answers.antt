@@ -1,10 +1,10 @@
 -- The item found lies within the received bytes, and its bytes are read by the function of one item.
-use Rattle.std.proofs.Common.{ℕ, ◌<◌, ◌^◌, List, arith, drop, length, refl, rules, ◌∙◌}
+use Rattle.std.proofs.Common.{ℕ, List, drop, refl, ◌∙◌}
 use Rattle.cursor.specs.ReadingLaws.{rest_drop}
 use Rattle.att.specs.Typed.{show_att}
 use Rattle.att_items.specs.Iterators.{rest_of}
 use Rattle.att_items.specs.declared.Step.{Step}
-use Rattle.att_items.proofs.StepLaws.{cut_item, of_item, pair_length}
+use Rattle.att_items.proofs.StepLaws.{of_item}
 use Rattle.att_items.proofs.read_by_type_rest.Goals as goal
 
 pub returns-in-Item : goal.returns-in-Item
