@@ -37,6 +37,7 @@ fn neither(a: bool, b: bool, rest: bool) -> bool
 }
 
 // Two marks.
+#[tactic(auto, unfolding(text_put::specs::Put::behind, text_put::specs::Put::holding))]
 fn marks(out: &mut [u8], pos: usize, a: bool, first: &[u8], b: bool, second: &[u8]) -> usize
     ensures value { result ≡ behind (pick a first.now [] ∷ pick b second.now [] ∷ []) pos out.old }
     ensures out_after { out.new ≡ holding (pick a first.now [] ∷ pick b second.now [] ∷ []) pos out.old }
@@ -46,6 +47,7 @@ fn marks(out: &mut [u8], pos: usize, a: bool, first: &[u8], b: bool, second: &[u
 }
 
 // `link mtu=N marks=MARKS`
+#[tactic(auto, unfolding(text_put::specs::Put::behind, text_put::specs::Put::holding))]
 pub fn link_line(link: Link, out: &mut [u8]) -> usize
     ensures value { result ≡ behind (link_texts link) 0 out.old }
     ensures out_after { out.new ≡ holding (link_texts link) 0 out.old }
@@ -58,6 +60,7 @@ pub fn link_line(link: Link, out: &mut [u8]) -> usize
 }
 
 // `record HANDLE TYPE`
+#[tactic(auto, unfolding(text_put::specs::Put::behind, text_put::specs::Put::holding))]
 fn head(r: Record, out: &mut [u8]) -> usize
     ensures value { result ≡ behind (head_texts r) 0 out.old }
     ensures out_after { out.new ≡ holding (head_texts r) 0 out.old }
@@ -68,6 +71,7 @@ fn head(r: Record, out: &mut [u8]) -> usize
 }
 
 // ` MARKS`
+#[tactic(auto, unfolding(text_put::specs::Put::behind, text_put::specs::Put::holding))]
 fn record_marks(r: Record, out: &mut [u8], pos: usize) -> usize
     ensures value { result ≡ behind (record_marks r) pos out.old }
     ensures out_after { out.new ≡ holding (record_marks r) pos out.old }
@@ -81,6 +85,7 @@ fn record_marks(r: Record, out: &mut [u8], pos: usize) -> usize
 }
 
 // ` fixed at=AT` or ` live at=AT capacity=N`
+#[tactic(auto, unfolding(text_put::specs::Put::behind, text_put::specs::Put::holding))]
 fn place_text(place: Place, out: &mut [u8], pos: usize) -> usize
     ensures value { result ≡ behind (place_texts place) pos out.old }
     ensures out_after { out.new ≡ holding (place_texts place) pos out.old }
