@@ -23,7 +23,6 @@ fn range(out: &mut [u8], pos: usize, name: &[u8], start: u16, end: u16) -> usize
 }
 
 // The type and the value that are looked for.
-#[tactic(auto, unfolding(text_put::specs::Put::behind, text_put::specs::Put::holding))]
 fn sought(out: &mut [u8], pos: usize, kind: u16, src: &[u8], d: Span) -> usize
     ensures value { result ≡ behind (sought_texts kind d src.now) pos out.old }
     ensures out_after { out.new ≡ holding (sought_texts kind d src.now) pos out.old }
