@@ -1,13 +1,10 @@
 -- The texts of the replies on integers and UUIDs, one behind the other.
-use Rattle.std.specs.Prelude.{ℕ, ◌/◌, ◌%◌, Bool, List, [], ◌∷◌, ◌++◌, length, eqb, leb}
+use Rattle.std.specs.Prelude.{ℕ, ◌/◌, ◌%◌, List, [], ◌∷◌, ◌++◌, length, eqb, leb}
 use Rattle.codec.specs.Ascii.{ascii}
-use Rattle.codec.specs.Buffer.{laid, written}
 use Rattle.codec.specs.Cases.{pick}
 use Rattle.codec.specs.declared.Error.TheVariants.{InvalidValue}
-use Rattle.codec.specs.declared.Written.{Written}
-use Rattle.codec.specs.declared.Written.TheVariants as writ
 use Rattle.text_hex.specs.Hex.{Meaning, none, some, hex_means}
-use Rattle.primitives.specs.Numbers.{bytes_of, number_at, reading}
+use Rattle.primitives.specs.Numbers.{number_at, reading}
 use Rattle.primitives.specs.declared.ReadU8.{ReadU8}
 use Rattle.primitives.specs.declared.ReadU8.TheVariants as one
 use Rattle.primitives.specs.declared.ReadU16.{ReadU16}

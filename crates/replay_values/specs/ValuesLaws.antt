@@ -1,10 +1,10 @@
 -- Laws of the replies on integers and UUIDs, in the shapes that the proofs of the code ask for.
-use Rattle.std.specs.Prelude.{ℕ, ◌≤◌, ◌<◌, ◌≡◌, refl, Bool, true, false, List, [], ◌∷◌, ◌++◌, length, take, replicate, leb}
+use Rattle.std.specs.Prelude.{ℕ, ◌≡◌, refl, Bool, true, false, List, [], ◌∷◌, length, leb}
 use Rattle.std.proofs.Common.{sym, ap, ◌∙◌, arith, ne_eqb, le-leb}
 use Rattle.codec.specs.Ascii.{ascii}
 use Rattle.codec.specs.Buffer.{laid_at}
 use Rattle.codec.specs.Cases.{pick}
-use Rattle.text_put.specs.Put.{first_of, behind, holding}
+use Rattle.text_put.specs.Put.{first_of}
 use Rattle.text_hex.specs.Hex.{Meaning, none, some, hex_means, answered, filled}
 use Rattle.primitives.specs.declared.ReadU8.{ReadU8}
 use Rattle.primitives.specs.declared.ReadU16.{ReadU16}

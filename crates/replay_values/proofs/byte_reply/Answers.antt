@@ -1,5 +1,5 @@
 -- The number or the refusal.
-use Rattle.std.proofs.Common.{◌/◌, ◌%◌, [], ◌∷◌}
+use Rattle.std.proofs.Common.{[], ◌∷◌}
 use Rattle.text_print.specs.Print.{capitals}
 use Rattle.text_put.specs.PutLaws.{one}
 use Rattle.replay_values.specs.ValuesLaws.{byte_as}
