@@ -11,7 +11,7 @@ const PACKETS: usize = 1_000_000;
 const ROUNDS: usize = 15;
 
 extern "C" {
-    /// The port's, of target/speed: how many bytes it wrote, 0 for a refusal. A slice of Rattle is a pointer and a length.
+    /// The port's, of a copy of the repository: how many bytes it wrote, 0 for a refusal. A slice of Rattle is a pointer and a length.
     fn recode(src: *const u8, len: usize, out: *mut u8, room: usize) -> usize;
 }
 
