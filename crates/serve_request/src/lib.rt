@@ -19,6 +19,7 @@ use serve_search::Ask;
 use serve_tell::Wrote;
 
 // The answer to a request whose data stand in `src`. A type of 08 or 10 is `uuid`.
+#[tactic(auto, using(crate::specs::RequestsLaws::list_quiet, crate::specs::RequestsLaws::read_quiet, crate::specs::RequestsLaws::blob_quiet, serve_change::specs::ChangesLaws::exchange_says))]
 pub fn answer<'a>(
     req: AttReq,
     uuid: Uuid,

@@ -1,4 +1,4 @@
--- The permission decides.
+-- The permission decides: a store that is denied asks for nothing.
 use Rattle.std.proofs.Common.{ℕ, List, length, sym, ap, ◌∙◌}
 use Rattle.att.specs.Typed.{part_of}
 use Rattle.attributes.specs.Records.{entries}
@@ -10,10 +10,4 @@ pub returns-in-Denied : goal.returns-in-Denied
 returns-in-Denied c =
     let a = c.args in
     let q = ap (λ (v : List ℕ). store_at a.link.encrypted a.handle (length v) (entries a.t)) (sym c.part-value.ensures) ∙ sym c.may_store.ensures ∙ c.in-Denied.is in
-    sym (ap (λ (x : Permission). (store_reply a.handle (part_of a.«data» a.src.now) x).effect) q)
-
-pub returns-in-Allowed : goal.returns-in-Allowed
-returns-in-Allowed c =
-    let a = c.args in
-    let q = ap (λ (v : List ℕ). store_at a.link.encrypted a.handle (length v) (entries a.t)) (sym c.part-value.ensures) ∙ sym c.may_store.ensures ∙ c.in-Allowed.is in
     sym (ap (λ (x : Permission). (store_reply a.handle (part_of a.«data» a.src.now) x).effect) q)

@@ -1,21 +1,8 @@
 -- The tests in their order; each way is the book's.
-use Rattle.std.proofs.Common.{ne_eqb, sym, ap, ◌∙◌, arith}
+use Rattle.std.proofs.Common.{sym, ap, ◌∙◌, arith}
 use Rattle.att.specs.declared.Decoded.{Decoded}
-use Rattle.serve_packet.specs.PacketsLaws.{strict_packet, command_other, command_loose, command_long, command_typed}
+use Rattle.serve_packet.specs.PacketsLaws.{strict_packet, command_typed}
 use Rattle.serve_packet.proofs.command.Goals as goal
-
-pub returns-then-op-ne-ATT_WRITE_CMD : goal.returns-then-op-ne-ATT_WRITE_CMD
-returns-then-op-ne-ATT_WRITE_CMD c =
-    let a = c.args in
-    command_other a.t a.link a.op a.packet.now c.requires (ne_eqb a.op 0x52 c.if-op-ne-ATT_WRITE_CMD.true)
-
-pub returns-then-not-strict : goal.returns-then-not-strict
-returns-then-not-strict c =
-    let a = c.args in
-    command_loose a.t a.link a.op a.packet.now c.requires c.if-op-ne-ATT_WRITE_CMD.false (sym c.strict.ensures ∙ c.if-not-strict.true)
-
-pub returns-then-link-packet : goal.returns-then-link-packet
-returns-then-link-packet c = let a = c.args in command_long a.t a.link a.op a.packet.now (omega arith)
 
 pub returns-in-Refused : goal.returns-in-Refused
 returns-in-Refused c =

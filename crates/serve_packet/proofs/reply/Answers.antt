@@ -4,24 +4,12 @@ use Rattle.serve_packet.specs.PacketsLaws.{first_is}
 use Rattle.serve_packet.specs.SpeakLaws.{silence, answering}
 use Rattle.serve_packet.proofs.reply.Goals as goal
 
-pub command-effect-requires : goal.command-effect-requires
-command-effect-requires c = let a = c.args in first_is a.packet.now 0 c.requires.packet_nonzero
-
 pub returns-then-silent : goal.returns-then-silent
 returns-then-silent c =
     let a = c.args in
     let s = silence a.t a.link a.fixed.now a.live.now (get_or a.packet.now 0 0) a.packet.now c.command-effect.result (length a.out.now) (first_is a.packet.now 0 c.requires.packet_nonzero)
     c.requires.packet_nonzero (sym c.silent.ensures ∙ c.if-silent.true) c.command-effect.ensures in
     record { result_value = s.0; out_after = s.1 a.out.now }
-
-pub request-told-requires : goal.request-told-requires
-request-told-requires c =
-    let a = c.args in
-    record {
-      link_value = c.requires.link_value;
-      op_value = first_is a.packet.now 0 c.requires.packet_nonzero;
-      packet_nonzero = c.requires.packet_nonzero;
-    }
 
 pub returns : goal.returns
 returns c =

@@ -33,14 +33,11 @@ returns-then-not-strict c =
     (request_loose (views (state_of a.t a.link a.fixed.now a.live.now)) a.link a.op a.packet.now c.requires.op_value c.requires.packet_nonzero (omega arith) (sym c.served.ensures ∙ c.if-not-served.false) (sym c.strict.ensures ∙ c.if-not-strict.true)) in
     record { result_value = s.0; out_after = s.1 }
 
-pub typed-requires : goal.typed-requires
-typed-requires c =
+pub typed-requires-clause-op_value : goal.typed-requires-clause-op_value
+typed-requires-clause-op_value c =
     let a = c.args in
-    let n = sym (ap (λ (x : Decoded). x.answer) c.decode-decoded.ensures) ∙ c.in-Packet.is in
-    record {
-      link_value = c.requires.link_value;
-      op_value = request_opcode (views (state_of a.t a.link a.fixed.now a.live.now)) a.link a.op a.packet.now c.requires.op_value c.requires.packet_nonzero (sym c.strict.ensures ∙ c.if-not-strict.false) _ n;
-    }
+    request_opcode (views (state_of a.t a.link a.fixed.now a.live.now)) a.link a.op a.packet.now c.requires.op_value c.requires.packet_nonzero
+    (sym c.strict.ensures ∙ c.if-not-strict.false) _ (sym (ap (λ (x : Decoded). x.answer) c.decode-decoded.ensures) ∙ c.in-Packet.is)
 
 pub returns-in-Refused : goal.returns-in-Refused
 returns-in-Refused c =

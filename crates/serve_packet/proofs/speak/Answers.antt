@@ -32,10 +32,8 @@ returns-then-packet-eq0 c =
     (sym c.sound.ensures ∙ c.if-not-sound.false) (omega arith) c.if-packet-eq0.true in
     record { result_value = ap (replied_as a.packet.now) c.refuse-then-packet-eq0.ensures ∙ g.0; out_after = g.1 }
 
-pub reply-requires : goal.reply-requires
-reply-requires c =
-    let l = (sym c.sound.ensures ∙ c.if-not-sound.false) in
-    record { link_value = l; in_bounds = omega (arith, legal_least _ (sound_legal _ l)); packet_nonzero = omega arith }
+pub reply-requires-clause-in_bounds : goal.reply-requires-clause-in_bounds
+reply-requires-clause-in_bounds c = omega (arith, legal_least _ (sound_legal _ (sym c.sound.ensures ∙ c.if-not-sound.false)))
 
 pub returns : goal.returns
 returns c =
