@@ -6,7 +6,7 @@ use native.Mathlib.Omega.{arith}
 use lib.ListN.{length, drop, get_or, length-drop}
 use Rattle.primitives.specs.Numbers.{number_at}
 use Rattle.cursor.specs.Reading.{rest}
-use Rattle.cursor.specs.ReadingLaws.{rest_drop}
+use Rattle.cursor.proofs.ReadingLaws.{rest_drop}
 use Rattle.codec.specs.Cases.{None}
 use Rattle.codec.specs.CasesLaws.{missing}
 use Rattle.att.specs.Wire.{shape, NoPacket, rows, shape_of, decodes}

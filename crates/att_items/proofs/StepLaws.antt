@@ -13,7 +13,7 @@ use Rattle.codec.specs.Cases.{pick}
 use Rattle.codec.specs.declared.Error.{Error}
 use Rattle.primitives.specs.Numbers.{number_at}
 use Rattle.cursor.specs.Reading.{sliced}
-use Rattle.cursor.specs.PositionLaws.{gives}
+use Rattle.cursor.proofs.PositionLaws.{gives}
 use Rattle.ble_uuid.specs.Uuids.{no_uuid}
 use Rattle.ble_uuid.specs.declared.Uuid.{Uuid}
 use Rattle.att.specs.Wire as wire

@@ -173,7 +173,7 @@ fn each_of(follows: Follows) -> usize
 }
 
 // A whole item of `each` bytes at the position of a range; past the data, and where less is left, the end.
-#[tactic(auto, using(cursor::specs::PositionLaws::went, cursor::specs::PositionLaws::stayed), unfolding(crate::specs::Iterators::fitted))]
+#[tactic(auto, using(cursor::proofs::PositionLaws::went, cursor::proofs::PositionLaws::stayed), unfolding(crate::specs::Iterators::fitted))]
 fn fit(each: usize, at: usize, len: usize, pos: usize) -> Step
     requires { at + len < 2 ^ 64 }
     ensures { result ≡ fitted each at len pos }
@@ -192,7 +192,7 @@ fn fit(each: usize, at: usize, len: usize, pos: usize) -> Step
 }
 
 // The handle, and the end behind it.
-#[tactic(auto, using(cursor::specs::ReadingLaws::got, cursor::specs::ReadingLaws::not_got))]
+#[tactic(auto, using(cursor::proofs::ReadingLaws::got, cursor::proofs::ReadingLaws::not_got))]
 fn pair_at(i: &[u8], next: usize) -> HandlePair
     requires { 4 ≤ length i.now }
     ensures { result ≡ pair_at i.now next }
@@ -207,7 +207,7 @@ fn pair_at(i: &[u8], next: usize) -> HandlePair
 }
 
 // The handle, and the UUID of what is left behind it.
-#[tactic(auto, using(cursor::specs::ReadingLaws::got, cursor::specs::ReadingLaws::not_got, cursor::specs::ReadingLaws::rest_drop))]
+#[tactic(auto, using(cursor::proofs::ReadingLaws::got, cursor::proofs::ReadingLaws::not_got, cursor::proofs::ReadingLaws::rest_drop))]
 fn information_at(i: &[u8], next: usize) -> Information
     requires { 2 ≤ length i.now }
     ensures { result ≡ information_at i.now next }
@@ -235,7 +235,7 @@ fn no_information() -> Information
 }
 
 // The handle, and the range of what is left behind it: the item starts at `at` of the received bytes.
-#[tactic(auto, using(cursor::specs::ReadingLaws::got, cursor::specs::ReadingLaws::not_got))]
+#[tactic(auto, using(cursor::proofs::ReadingLaws::got, cursor::proofs::ReadingLaws::not_got))]
 fn value_at(at: usize, i: &[u8], next: usize) -> HandleValue
     requires { (2 ≤ length i.now) × (at + length i.now < 2 ^ 64) }
     ensures { result ≡ value_at at i.now next }

@@ -1,4 +1,2 @@
 pub mod Position
-pub mod PositionLaws
 pub mod Reading
-pub mod ReadingLaws

@@ -8,9 +8,9 @@ use Rattle.codec.specs.declared.Error.{Error}
 use Rattle.primitives.specs.Numbers.{bytes_of, number_at, limit}
 use Rattle.primitives.specs.NumbersLaws.{length_bytes, number_bytes}
 use Rattle.cursor.specs.Position.{moving, parted}
-use Rattle.cursor.specs.PositionLaws.{went, stayed}
+use Rattle.cursor.proofs.PositionLaws.{went, stayed}
 use Rattle.cursor.specs.Reading.{rest}
-use Rattle.cursor.specs.ReadingLaws.{rest_drop}
+use Rattle.cursor.proofs.ReadingLaws.{rest_drop}
 use Rattle.cursor_write.specs.Writing.{writing, filled, split_first, split_second}
 use Rattle.cursor.specs.declared.Moved.{Moved}
 use Rattle.cursor.specs.declared.Moved.TheVariants.{To, Refused}

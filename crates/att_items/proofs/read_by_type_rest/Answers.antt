@@ -1,6 +1,6 @@
 -- The item found lies within the received bytes, and its bytes are read by the function of one item.
 use Rattle.std.proofs.Common.{ℕ, List, drop, refl, ◌∙◌}
-use Rattle.cursor.specs.ReadingLaws.{rest_drop}
+use Rattle.cursor.proofs.ReadingLaws.{rest_drop}
 use Rattle.att.specs.Typed.{show_att}
 use Rattle.att_items.specs.Iterators.{rest_of}
 use Rattle.att_items.specs.declared.Step.{Step}

@@ -9,7 +9,7 @@ use Rattle.primitives.specs.Numbers.{number_at}
 use Rattle.codec.specs.declared.Error.{Error}
 use Rattle.codec.specs.declared.Error.TheVariants.{InvalidValue}
 use Rattle.cursor.specs.Position.{moving}
-use Rattle.cursor.specs.PositionLaws.{gives, went, stayed}
+use Rattle.cursor.proofs.PositionLaws.{gives, went, stayed}
 use Rattle.cursor.specs.Reading.{read_at, sliced, rest}
 use Rattle.cursor.specs.declared.ReadU16.{ReadU16}
 use Rattle.cursor.specs.declared.ReadU16.TheVariants as u16
