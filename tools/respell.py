@@ -1,7 +1,7 @@
 #!/usr/bin/env python3
 """Spells the repository's own definitions, lemmas, fields and constructors as Rattle does: words in snake case.
 
-usage: python3 tools/respell.py          at the top, once, after /opt/rattle/port/port.py
+usage: python3 tools/respell.py          at the top, once, after the kit's port.py
 
 A name of specs/ or proofs/ that has a dash or a capital inside becomes words joined by '_'. Names of types, modules and src/ stay. The crate
 `uuid`, whose name is a library's of the kit, becomes `ble_uuid`. must-fail edits are turned with the text that they change.
