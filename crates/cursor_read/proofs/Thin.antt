@@ -1,6 +1,7 @@
 -- One walk for every method that takes the cursor apart and calls a function of the crate cursor with its position and its bytes.
 -- It is over the result's type s, what the contract says of the result P, the result's MIR type ρ and the callee's name f: all that
--- it knows of the callee is that it says P of its own result. A method's proof cites `proved` at its own four.
+-- it knows of the callee is that it says P of its own result. Rattle walks the methods itself by now; before, each method's proof cited
+-- `proved` at its own four.
 -- One copy of what the struct owns is kept whole for the exit, and of the other what the fields own goes to the callee, beside the
 -- lifetime's token, which comes back.
 use mathlib.Core.Path.{◌≡◌, refl}
