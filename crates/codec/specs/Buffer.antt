@@ -1,10 +1,9 @@
 -- What a lent buffer holds after a call that writes bytes into it, and what that call answers: the bytes are written whole
 -- or not at all, and every other byte of the buffer stays.
-use Rattle.std.specs.Prelude.{ℕ, ◌+◌, List, ◌++◌, length, take, drop, leb}
+use Rattle.std.specs.Prelude.{Result, Ok, Err, ℕ, ◌+◌, List, ◌++◌, length, take, drop, leb}
 use Rattle.codec.specs.Cases.{pick}
+use Rattle.codec.specs.declared.Error.{Error}
 use Rattle.codec.specs.declared.Error.TheVariants.{InsufficientSpace}
-use Rattle.codec.specs.declared.Written.{Written}
-use Rattle.codec.specs.declared.Written.TheVariants.{Done, Refused}
 
 -- `out` with `bytes` laid over its start
 abbrev pub over : List ℕ → List ℕ → List ℕ
@@ -13,8 +12,8 @@ over bytes out = bytes ++ drop (length bytes) out
 abbrev pub laid : List ℕ → List ℕ → List ℕ
 laid bytes out = pick (leb (length bytes) (length out)) (over bytes out) out
 
-abbrev pub written : List ℕ → List ℕ → Written
-written bytes out = pick (leb (length bytes) (length out)) (Done (length bytes)) (Refused InsufficientSpace)
+abbrev pub written : List ℕ → List ℕ → Result ℕ Error
+written bytes out = pick (leb (length bytes) (length out)) (Ok (length bytes)) (Err InsufficientSpace)
 
 -- The same from a position on: what stands before it stays. A position past the end has no room, not even for no bytes.
 abbrev pub over_at : ℕ → List ℕ → List ℕ → List ℕ

@@ -1,12 +1,10 @@
 -- Laws of bytes laid over a lent buffer. Each has the shape of what an encoder's proof is asked for.
-use Rattle.std.specs.Prelude.{ℕ, ◌+◌, ◌-◌, ◌≤◌, ◌<◌, ◌≡◌, refl, List, [], ◌++◌, length, take, drop}
+use Rattle.std.specs.Prelude.{Ok, Err, ℕ, ◌+◌, ◌-◌, ◌≤◌, ◌<◌, ◌≡◌, refl, List, [], ◌++◌, length, take, drop}
 use Rattle.std.proofs.Common.{sym, ap, ◌∙◌, append_assoc, append-nil, arith, length-append, length-drop, drop_of_length-le, take_all, drop-drop, take_at, drop_at, length-take-le, le-leb}
 use Rattle.std.proofs.Math.Seq.{drop-length, take-nil}
 use Rattle.std.proofs.lemmas.Bool.{lt-leb}
 use Rattle.codec.specs.Buffer.{over, laid, written, over_at, laid_at}
 use Rattle.codec.specs.declared.Error.TheVariants.{InsufficientSpace}
-use Rattle.codec.specs.declared.Written.{Written}
-use Rattle.codec.specs.declared.Written.TheVariants.{Done, Refused}
 
 -- a part that goes to the end is what is left after its start
 pub to_the_end : (p : ℕ) (l : List ℕ) → take (length l - p) (drop p l) ≡ drop p l
@@ -20,12 +18,12 @@ pub over_length : (a l : List ℕ) → length a ≤ length l → length (over a 
 over_length a l h = simp (length-append, length-drop) (omega arith)
 
 -- the two answers of a call that writes, each with what the buffer then holds
-pub refused : (bytes out : List ℕ) → length out < length bytes → (Refused InsufficientSpace ≡ written bytes out) × (out ≡ laid bytes out)
+pub refused : (bytes out : List ℕ) → length out < length bytes → (Err InsufficientSpace ≡ written bytes out) × (out ≡ laid bytes out)
 refused bytes out h = rw (lt-leb _ _ h) (refl, refl)
 
 pub done : (bytes out m : List ℕ) (n : ℕ) → length bytes ≤ length out → n ≡ length bytes → m ≡ over bytes out
-    → (Done n ≡ written bytes out) × (m ≡ laid bytes out)
-done bytes out m n h e w = rw (le-leb _ _ h) (ap Done e, w)
+    → (Ok n ≡ written bytes out) × (m ≡ laid bytes out)
+done bytes out m n h e w = rw (le-leb _ _ h) (ap Ok e, w)
 
 -- `m` is `l` with `a` laid over its start. Its part from the end of `a` on was lent, and came back with `b` laid over that
 -- part's start: the whole is then `l` with `a ++ b` laid over its start

@@ -1,7 +1,7 @@
 -- Laws of choosing. The default arm of a `match` on a number: a number of no row looks up the default. Two lists pass the test
 -- `same` exactly when they are equal. A case that cannot be.
 use Rattle.std.specs.Prelude.{ℕ, ◌≡◌, refl, Bool, true, false, ◌&&◌, List, [], ◌∷◌, eqb}
-use Rattle.std.proofs.Common.{sym, ap, ◌∙◌, arith, eq-eqb, ne_eqb, eqb-true}
+use Rattle.std.proofs.Common.{sym, ◌∙◌, arith, eq-eqb, ne_eqb, eqb-true}
 use lib.Pointwise.{pointwise}
 use Rattle.codec.specs.Cases.{lookup, None, same}
 
