@@ -1,5 +1,5 @@
 -- What an addition does: an accepted one appends its record, keeps the table sound, and appends its attribute to the ledger.
-use Rattle.std.specs.Prelude.{ℕ, ◌+◌, ◌<◌, Bool, false, ◌≡◌, List, [], ◌∷◌, ◌++◌, map}
+use Rattle.std.specs.Prelude.{ℕ, ◌+◌, ◌<◌, Bool, false, ◌≡◌, List, [], ◌∷◌, ◌++◌, Result, Ok, Err, map}
 use Rattle.std.proofs.Math.Bool.{true}
 use Rattle.std.proofs.Math.Path.{refl}
 use Rattle.std.proofs.Common.{◌∙◌, ap, arith, add-one, length-set, take-suc-set, ltb-true, le-leb, eq-eqb}
@@ -9,15 +9,13 @@ use Rattle.codec.specs.Cases.{pick}
 use Rattle.codec.specs.CasesLaws.{impossible, both, join}
 use Rattle.codec.specs.declared.Refusal.{Refusal}
 use Rattle.codec.specs.declared.Refusal.TheVariants.{BadTable}
-use Rattle.attributes.specs.Additions.{tested, new_refusal, new_table, last_handle, used, fresh_place, fresh, add_tests, add_refusal, appended, added, fresh_item}
+use Rattle.attributes.specs.Additions.{tested, table_after, empty_table, new_refusal, new_table, last_handle, used, fresh_place, fresh, add_tests, add_refusal, appended, added, fresh_item}
 use Rattle.attributes.specs.Lists.{Each}
 use Rattle.attributes.specs.Ledger.{Item, item, ledger_of}
 use Rattle.attributes.specs.Records.{entries}
 use Rattle.attributes.specs.Soundness.{count_ok, live_ok, areas_ok, handle_ok, type_ok, value_ok, space_ok, start_ok, length_ok, room_of, record_ok, slots_end, records_ok, sound_table}
 use Rattle.attributes.proofs.SoundnessLaws.{Good, good_ok}
 use Rattle.attributes.specs.declared.Addition.{Addition}
-use Rattle.attributes.specs.declared.Outcome.{Outcome}
-use Rattle.attributes.specs.declared.Outcome.TheVariants.{Accepted, Refused}
 use Rattle.attributes.specs.declared.Record.{Record}
 use Rattle.attributes.specs.declared.Room as asked
 use Rattle.attributes.specs.declared.Room.TheVariants as room
@@ -27,11 +25,11 @@ use Rattle.attributes.specs.declared.Table.{Table}
 abbrev pub Passes : List (Bool × Refusal) → Type 0
 Passes tests = Each (λ (test : Bool × Refusal). test.0 ≡ true) tests
 
-pub each_passed : (tests : List (Bool × Refusal)) → tested tests ≡ Accepted → Passes tests
+pub each_passed : (tests : List (Bool × Refusal)) → tested tests ≡ Ok tt → Passes tests
 each_passed [] e = tt
 each_passed (test ∷ tests) e = by test.0 e (each_passed tests)
   where
-    by : (b : Bool) → pick b (tested tests) (Refused test.1) ≡ Accepted → (tested tests ≡ Accepted → Passes tests) → (b ≡ true) × Passes tests
+    by : (b : Bool) → pick b (tested tests) (Err test.1) ≡ Ok tt → (tested tests ≡ Ok tt → Passes tests) → (b ≡ true) × Passes tests
     by true e f = (refl, f e)
     by false e f = impossible (cc)
 
@@ -44,7 +42,7 @@ pub record Passed (t : Table) (a : Addition) (fl ll : ℕ) : Type 0 where
   pub value : value_ok fl a.writable a.room ≡ true
   pub space : space_ok ll (used 0 (entries t)) a.room ≡ true
 
-pub passed : (t : Table) (a : Addition) (fl ll : ℕ) → add_refusal t a fl ll ≡ Accepted → Passed t a fl ll
+pub passed : (t : Table) (a : Addition) (fl ll : ℕ) → add_refusal t a fl ll ≡ Ok tt → Passed t a fl ll
 unfolding add_refusal
 passed t a fl ll e =
     let p = each_passed (add_tests t a fl ll) e in
@@ -94,17 +92,17 @@ appended_entries t r h = rw (add-one t.count) (take-suc-set t.records t.count r 
 
 -- Tables. A table's array has 64 places; here that is a side condition.
 module _ (t : Table) (a : Addition) (full : length t.records ≡ 64) where
-  module _ (fl ll : ℕ) (e : add_refusal t a fl ll ≡ Accepted) where
-    pub added_is : (added t a fl ll).table ≡ appended t (fresh (used 0 (entries t)) a)
+  module _ (fl ll : ℕ) (e : add_refusal t a fl ll ≡ Ok tt) where
+    pub added_is : added t a fl ll ≡ Ok (appended t (fresh (used 0 (entries t)) a))
     unfolding added
     added_is = rw e
 
-    pub add_entries : entries (added t a fl ll).table ≡ entries t ++ fresh (used 0 (entries t)) a ∷ []
+    pub add_entries : entries (table_after t (added t a fl ll)) ≡ entries t ++ fresh (used 0 (entries t)) a ∷ []
     add_entries =
-        ap entries added_is
+        ap (λ (x : Result Table Refusal). entries (table_after t x)) added_is
         ∙ appended_entries t (fresh (used 0 (entries t)) a) (omega (arith, (passed t a fl ll e).free, full))
 
-    pub accepted_sound : sound_table (added t a fl ll).table fl ll ≡ true
+    pub accepted_sound : sound_table (table_after t (added t a fl ll)) fl ll ≡ true
     unfolding sound_table
     accepted_sound =
         let p = passed t a fl ll e in
@@ -118,24 +116,24 @@ module _ (t : Table) (a : Addition) (full : length t.records ≡ 64) where
         (good_ok fl ll (last_handle 0 (entries t)) at (fresh at a) (fresh_good t a fl ll p))))))
 
   -- an addition keeps soundness, accepted or not, and the array's length
-  pub add_sound : (fl ll : ℕ) → sound_table t fl ll ≡ true → sound_table (added t a fl ll).table fl ll ≡ true
+  pub add_sound : (fl ll : ℕ) → sound_table t fl ll ≡ true → sound_table (table_after t (added t a fl ll)) fl ll ≡ true
   unfolding added
   add_sound fl ll s = by (add_refusal t a fl ll) refl
     where
-      by : (o : Outcome) → add_refusal t a fl ll ≡ o → sound_table (added t a fl ll).table fl ll ≡ true
-      by Accepted e = accepted_sound fl ll e
-      by (Refused why) e = rw e s
+      by : (o : Result Unit Refusal) → add_refusal t a fl ll ≡ o → sound_table (table_after t (added t a fl ll)) fl ll ≡ true
+      by (Ok u) e = accepted_sound fl ll e
+      by (Err why) e = rw e s
 
-  pub add_full : (fl ll : ℕ) → length (added t a fl ll).table.records ≡ 64
+  pub add_full : (fl ll : ℕ) → length (table_after t (added t a fl ll)).records ≡ 64
   unfolding added
   add_full fl ll = by (add_refusal t a fl ll) refl
     where
-      by : (o : Outcome) → add_refusal t a fl ll ≡ o → length (added t a fl ll).table.records ≡ 64
-      by Accepted e = rw e (length-set t.records t.count (fresh (used 0 (entries t)) a) ∙ full)
-      by (Refused why) e = rw e full
+      by : (o : Result Unit Refusal) → add_refusal t a fl ll ≡ o → length (table_after t (added t a fl ll)).records ≡ 64
+      by (Ok u) e = rw e (length-set t.records t.count (fresh (used 0 (entries t)) a) ∙ full)
+      by (Err why) e = rw e full
 
-  pub add_ledger : (fixed live : List ℕ) → add_refusal t a (length fixed) (length live) ≡ Accepted
-      → ledger_of (added t a (length fixed) (length live)).table fixed live ≡ ledger_of t fixed live ++ fresh_item fixed a ∷ []
+  pub add_ledger : (fixed live : List ℕ) → add_refusal t a (length fixed) (length live) ≡ Ok tt
+      → ledger_of (table_after t (added t a (length fixed) (length live))) fixed live ≡ ledger_of t fixed live ++ fresh_item fixed a ∷ []
   add_ledger fixed live e =
       let at = used 0 (entries t) in
       ap (map (item fixed live)) (add_entries (length fixed) (length live) e)
@@ -146,12 +144,13 @@ module _ (t : Table) (a : Addition) (full : length t.records ≡ 64) where
       fresh_item_lem at (room.Fixed b n) q = rw q
       fresh_item_lem at (room.Live c) q = rw q
 
--- a refused addition changes nothing
-pub refused_add : (t : Table) (a : Addition) (fl ll : ℕ) (why : Refusal) → add_refusal t a fl ll ≡ Refused why → (added t a fl ll).table ≡ t
+-- a refused addition answers its refusal, and changes nothing
+pub refused_add : (t : Table) (a : Addition) (fl ll : ℕ) (why : Refusal) → add_refusal t a fl ll ≡ Err why
+    → (added t a fl ll ≡ Err why) × (table_after t (added t a fl ll) ≡ t)
 unfolding added
-refused_add t a fl ll why e = rw e
+refused_add t a fl ll why e = rw e (refl, refl)
 
 -- A new table is sound for the areas that it was made for, and has no record.
-pub new_sound : (fl ll : ℕ) → new_refusal ll ≡ Accepted → sound_table (new_table fl ll).table fl ll ≡ true
+pub new_sound : (fl ll : ℕ) → new_refusal ll ≡ Ok tt → (new_table fl ll ≡ Ok (empty_table fl ll)) × (sound_table (empty_table fl ll) fl ll ≡ true)
 unfolding new_table sound_table
-new_sound fl ll e = rw e (join (each_passed ((live_ok ll, BadTable) ∷ []) e).0 (join (join (eq-eqb fl fl refl) (eq-eqb ll ll refl)) refl))
+new_sound fl ll e = rw e (refl, join (each_passed ((live_ok ll, BadTable) ∷ []) e).0 (join (join (eq-eqb fl fl refl) (eq-eqb ll ll refl)) refl))

@@ -1,19 +1,17 @@
 -- The records of a table that additions made are the accepted ones, one after the other, lengths apart: an accepted addition appends its
 -- record behind them, a refused one and the till's own store leave the skeleton. The book of the responder has whole histories.
-use Prim.Native.Nat.{ℕ, ◌+◌}
-use mathlib.Core.Path.{◌≡◌, refl, sym, ◌∙◌, ap}
-use mathlib.Core.List.{List, [], ◌∷◌, ◌++◌, map, map-append}
-use lib.ListN.{length}
+use Rattle.std.specs.Prelude.{ℕ, ◌+◌, ◌≡◌, refl, List, [], ◌∷◌, ◌++◌, Result, Ok, Err, map, length}
+use Rattle.std.proofs.Common.{sym, ◌∙◌, ap}
+use Rattle.std.proofs.lemmas.List.{map-append}
+use Rattle.codec.specs.declared.Refusal.{Refusal}
 use Rattle.attributes.proofs.AdditionLaws.{add_entries, refused_add}
-use Rattle.attributes.specs.Additions.{changed_by, used, fresh, add_refusal, added, joins, layout}
+use Rattle.attributes.specs.Additions.{table_after, changed_by, used, fresh, add_refusal, added, joins, layout}
 use Rattle.attributes.specs.ListLaws.{length_map_first}
 use Rattle.attributes.specs.Records.{Slot, entries, slot_size, bare, skeleton}
 use Rattle.attributes.specs.Soundness.{slots_end}
 use Rattle.attributes.proofs.StoreLaws.{grown_slot, store_skeleton}
 use Rattle.attributes.specs.Stores.{relength, relengthed, own_refusal, stored}
 use Rattle.attributes.specs.declared.Addition.{Addition}
-use Rattle.attributes.specs.declared.Outcome.{Outcome}
-use Rattle.attributes.specs.declared.Outcome.TheVariants.{Accepted, Refused}
 use Rattle.attributes.specs.declared.Record.{Record}
 use Rattle.attributes.specs.declared.Room as asked
 use Rattle.attributes.specs.declared.Room.TheVariants as room
@@ -34,21 +32,21 @@ bare_fresh at a = by a.room refl
 
 -- the till's own store leaves the skeleton and the array's length
 module _ (t : Table) (h : ℕ) (v fixed live : List ℕ) where
-  pub stored_skeleton : skeleton (stored t h v fixed live).table ≡ skeleton t
+  pub stored_skeleton : skeleton (table_after t (stored t h v fixed live)) ≡ skeleton t
   unfolding stored
   stored_skeleton = by (own_refusal t h (length v) fixed live)
     where
-      by : (o : Outcome) → skeleton (changed_by o (relengthed t h (length v)) t).table ≡ skeleton t
-      by Accepted = store_skeleton t h v
-      by (Refused why) = refl
+      by : (o : Result Unit Refusal) → skeleton (table_after t (changed_by o (relengthed t h (length v)))) ≡ skeleton t
+      by (Ok u) = store_skeleton t h v
+      by (Err why) = refl
 
-  pub stored_full : length t.records ≡ 64 → length (stored t h v fixed live).table.records ≡ 64
+  pub stored_full : length t.records ≡ 64 → length (table_after t (stored t h v fixed live)).records ≡ 64
   unfolding stored
   stored_full e = by (own_refusal t h (length v) fixed live)
     where
-      by : (o : Outcome) → length (changed_by o (relengthed t h (length v)) t).table.records ≡ 64
-      by Accepted = length_map_first t.count (relength h (length v)) t.records ∙ e
-      by (Refused why) = e
+      by : (o : Result Unit Refusal) → length (table_after t (changed_by o (relengthed t h (length v)))).records ≡ 64
+      by (Ok u) = length_map_first t.count (relength h (length v)) t.records ∙ e
+      by (Err why) = e
 
 -- one addition more behind those that made the records
 layout_more : (at : ℕ) (adds : List Addition) (a : Addition) → layout at (adds ++ a ∷ []) ≡ layout at adds ++ fresh (used at (layout at adds)) a ∷ []
@@ -57,9 +55,9 @@ layout_more at (b ∷ adds) a = ap (λ (l : List Record). fresh at b ∷ l) (lay
 
 -- AN ADDITION: the records of a table that additions made are those of the accepted ones, and of nothing else.
 pub built_add : (t : Table) (a : Addition) (fl ll : ℕ) (adds : List Addition) → length t.records ≡ 64 → skeleton t ≡ layout 0 adds
-    → (o : Outcome) → add_refusal t a fl ll ≡ o → skeleton (added t a fl ll).table ≡ layout 0 (joins o a adds)
-built_add t a fl ll adds full made (Refused why) e = ap skeleton (refused_add t a fl ll why e) ∙ made
-built_add t a fl ll adds full made Accepted e =
+    → (o : Result Unit Refusal) → add_refusal t a fl ll ≡ o → skeleton (table_after t (added t a fl ll)) ≡ layout 0 (joins o a adds)
+built_add t a fl ll adds full made (Err why) e = ap skeleton (refused_add t a fl ll why e).1 ∙ made
+built_add t a fl ll adds full made (Ok u) e =
     let at = used 0 (entries t) in
     ap (map bare) (add_entries t a full fl ll e) ∙ map-append bare (entries t) (fresh at a ∷ [])
     ∙ ap (λ (r : Record). skeleton t ++ r ∷ []) (bare_fresh at a)

@@ -1,10 +1,7 @@
 -- The till's own lookup and store look at no mark: two sound tables that differ in marks alone answer the same. What the first record
 -- with a handle gives is the same of the records without their marks, where it does not depend on them.
-use Prim.Native.Nat.{ℕ}
-use mathlib.Core.Bool.{true}
-use mathlib.Core.Path.{◌≡◌, sym, ◌∙◌, ap}
-use mathlib.Core.List.{List, []}
-use lib.ListN.{length}
+use Rattle.std.specs.Prelude.{ℕ, true, ◌≡◌, List, [], Ok, Err, length}
+use Rattle.std.proofs.Common.{sym, ◌∙◌, ap}
 use Rattle.codec.specs.declared.Refusal.TheVariants.{UnknownHandle}
 use Rattle.attributes.specs.FindLaws.{first_map, item_first}
 use Rattle.attributes.specs.Ledger.{Item, ledger_of, item_at, lookup_refusal, looked_up}
@@ -13,7 +10,6 @@ use Rattle.attributes.specs.Records.{entries, slot_of, value_of, record_at}
 use Rattle.attributes.specs.Soundness.{sound_table}
 use Rattle.attributes.proofs.StoreLaws.{own_tests_lem}
 use Rattle.attributes.specs.Stores.{slot_refusal, own_refusal}
-use Rattle.attributes.specs.declared.Outcome.TheVariants.{Accepted, Refused}
 use Rattle.attributes.specs.declared.Place.{Place}
 use Rattle.attributes.specs.declared.Record.{Record}
 use Rattle.attributes.specs.declared.Table.{Table}
@@ -40,14 +36,14 @@ module _ (t u : Table) (h : ℕ) (fixed live : List ℕ) (st : sound_table t (le
       rw (st, su) (
         in_ledger (λ (i : Item). i.value) (λ (p : Place). value_of p fixed live) []
             (λ q. item_first fixed live h (λ (i : Item). i.value) [] (entries q)),
-        in_ledger (λ (i : Item). Accepted) (λ (p : Place). Accepted) (Refused UnknownHandle)
-            (λ q. item_first fixed live h (λ (i : Item). Accepted) (Refused UnknownHandle) (entries q)),
+        in_ledger (λ (i : Item). Ok tt) (λ (p : Place). Ok tt) (Err UnknownHandle)
+            (λ q. item_first fixed live h (λ (i : Item). Ok tt) (Err UnknownHandle) (entries q)),
       )
 
   -- THE OWN STORE's refusal
   pub store_ignores_marks : (n : ℕ) → own_refusal t h n fixed live ≡ own_refusal u h n fixed live
   store_ignores_marks n =
       own_tests_lem t h n fixed live true st
-      ∙ in_ledger (λ (i : Item). slot_refusal n i.slot) (λ (p : Place). slot_refusal n (slot_of p)) (Refused UnknownHandle)
-      (λ q. item_first fixed live h (λ (i : Item). slot_refusal n i.slot) (Refused UnknownHandle) (entries q))
+      ∙ in_ledger (λ (i : Item). slot_refusal n i.slot) (λ (p : Place). slot_refusal n (slot_of p)) (Err UnknownHandle)
+      (λ q. item_first fixed live h (λ (i : Item). slot_refusal n i.slot) (Err UnknownHandle) (entries q))
       ∙ sym (own_tests_lem u h n fixed live true su)

@@ -1,5 +1,5 @@
 -- What a store does to the values of a ledger: an accepted one is the value at its handle, and every other value is as it was.
-use Rattle.std.specs.Prelude.{ℕ, Bool, true, false, ◌&&◌, ◌≡◌, refl, List, [], ◌∷◌, map, length, leb, eqb}
+use Rattle.std.specs.Prelude.{ℕ, Bool, true, false, ◌&&◌, ◌≡◌, refl, List, [], ◌∷◌, Ok, Err, map, length, leb, eqb}
 use Rattle.std.proofs.Common.{sym, ◌∙◌, eqb-true}
 use Rattle.codec.specs.Cases.{pick}
 use Rattle.codec.specs.CasesLaws.{both}
@@ -7,14 +7,13 @@ use Rattle.codec.specs.declared.Refusal.TheVariants.{TooLong}
 use Rattle.attributes.specs.Ledger.{Item, valued, value_at}
 use Rattle.attributes.specs.Records.{Slot, Kept, Room, fits}
 use Rattle.attributes.specs.Stores.{takes, put, slot_refusal, store_refusal, live_by}
-use Rattle.attributes.specs.declared.Outcome.TheVariants.{Accepted, Refused}
 
 -- a slot takes a value exactly when the till's store there is accepted
 pub slot_takes : (n : ℕ) (s : Slot) (x y : List ℕ) → live_by (slot_refusal n s) x y ≡ pick (fits n s) x y
 slot_takes n Kept x y = refl
 slot_takes n (Room c) x y = by (leb n c)
   where
-    by : (b : Bool) → live_by (pick b Accepted (Refused TooLong)) x y ≡ pick b x y
+    by : (b : Bool) → live_by (pick b (Ok tt) (Err TooLong)) x y ≡ pick b x y
     by true = refl
     by false = refl
 

@@ -3,7 +3,7 @@
 -- By induction over the records, with the handle and the end of the slots so far. A store among later records leaves what stands
 -- before them (`front`); the record that takes the store shows the value (`stored_value`); records behind it see the bytes behind
 -- it, which stay (`rest`).
-use Rattle.std.specs.Prelude.{ℕ, zero, suc, ◌+◌, ◌≤◌, ◌<◌, Bool, false, ◌≡◌, refl, List, [], ◌∷◌, map, length, take, drop, get_or, set, eqb}
+use Rattle.std.specs.Prelude.{ℕ, zero, suc, ◌+◌, ◌≤◌, ◌<◌, Bool, false, ◌≡◌, refl, List, [], ◌∷◌, Result, Ok, Err, map, length, take, drop, get_or, set, eqb}
 use Rattle.std.proofs.Math.Bool.{true}
 use Rattle.std.proofs.Math.Path.{sym}
 use Rattle.std.proofs.Common.{◌∙◌, ap, ap₂, arith, not-suc-le-zero, le_of_suc-le-suc, leb-true, eqb-true, ne_eqb, eq-eqb}
@@ -13,15 +13,13 @@ use Rattle.codec.specs.Cases.{pick}
 use Rattle.codec.specs.CasesLaws.{impossible, both, join}
 use Rattle.codec.specs.declared.Refusal.{Refusal}
 use Rattle.codec.specs.declared.Refusal.TheVariants.{UnknownHandle, NotStorable, TooLong, BadTable}
-use Rattle.attributes.specs.Additions.{tested, changed_by}
+use Rattle.attributes.specs.Additions.{tested, changed_by, table_after}
 use Rattle.attributes.specs.Ledger.{Item, holding, item, ledger_of, valued}
 use Rattle.attributes.specs.ListLaws.{map_as, take_map_first, over_at_length, over_at_there, over_at_before, over_at_behind, part_of_front, part_of_back}
 use Rattle.attributes.specs.Records.{Slot, Kept, Room, entries, value_of, slot_of, slot_size, fits, is_room, start, grown, lengthened, bare, skeleton}
 use Rattle.attributes.specs.Soundness.{count_ok, live_ok, areas_ok, space_ok, start_ok, length_ok, room_of, record_ok, slots_end, records_ok, sound_table}
 use Rattle.attributes.proofs.SoundnessLaws.{Good, good, good_ok, sound_parts, rises_all}
 use Rattle.attributes.specs.Stores.{present, storable, roomy, store_tests, takes, relength, map_first, relengthed, written_live, put, slot_refusal, store_refusal, own_refusal, stored, live_by, stored_live}
-use Rattle.attributes.specs.declared.Outcome.{Outcome}
-use Rattle.attributes.specs.declared.Outcome.TheVariants.{Accepted, Refused}
 use Rattle.attributes.specs.declared.Place.{Place}
 use Rattle.attributes.specs.declared.Place.TheVariants.{Fixed, Live}
 use Rattle.attributes.specs.declared.Record.{Record}
@@ -254,7 +252,7 @@ module _ (fl ll : ℕ) where
   -- a store that is refused changes nothing
   module _ (h : ℕ) (v fixed live : List ℕ) (why : Refusal) where
     store_refused : (last at n : ℕ) (rs : List Record) → records_ok fl ll last at (take n rs) ≡ true
-        → store_refusal h (length v) (map (item fixed live) (take n rs)) ≡ Refused why
+        → store_refusal h (length v) (map (item fixed live) (take n rs)) ≡ Err why
         → (map_first n (relength h (length v)) rs ≡ rs) × (written_live h v (take n rs) live ≡ live)
     store_refused last at zero rs o e = (refl, refl)
     store_refused last at (suc n) [] o e = (refl, refl)
@@ -263,12 +261,12 @@ module _ (fl ll : ℕ) where
         by (eqb r.handle h) (fits (length v) (slot_of r.place)) refl refl (store_refused r.handle (slots_end at r) n rs g.1)
         (λ p. none h (length v) r.handle (slots_end at r) n rs g.1 p) (λ p. unwritten h (length v) v live r.handle (slots_end at r) (take n rs) g.1 p)
       where
-        unfit : (s : Slot) → slot_refusal (length v) s ≡ Refused why → fits (length v) s ≡ true → ⊥
+        unfit : (s : Slot) → slot_refusal (length v) s ≡ Err why → fits (length v) s ≡ true → ⊥
         unfit Kept e f = impossible (cc)
-        unfit (Room c) e f = let x : Accepted ≡ Refused why = rw f at e in impossible (cc)
+        unfit (Room c) e f = let x : ◌≡◌ {A = Result Unit Refusal} (Ok tt) (Err why) = rw f at e in impossible (cc)
 
         by : (b f : Bool) → eqb r.handle h ≡ b → fits (length v) (slot_of r.place) ≡ f
-            → (store_refusal h (length v) (map (item fixed live) (take n rs)) ≡ Refused why
+            → (store_refusal h (length v) (map (item fixed live) (take n rs)) ≡ Err why
             → (map_first n (relength h (length v)) rs ≡ rs) × (written_live h v (take n rs) live ≡ live))
             → (h ≤ r.handle → map_first n (relength h (length v)) rs ≡ rs) → (h ≤ r.handle → written_live h v (take n rs) live ≡ live)
             → (map_first (suc n) (relength h (length v)) (r ∷ rs) ≡ r ∷ rs) × (written_live h v (take (suc n) (r ∷ rs)) live ≡ live)
@@ -296,13 +294,13 @@ store_tests_lem h n (i ∷ is) = by (eqb i.handle h) (store_tests_lem h n is)
     by false e = e
 
 pub own_tests_lem : (t : Table) (h n : ℕ) (fixed live : List ℕ) (b : Bool) → sound_table t (length fixed) (length live) ≡ b
-    → own_refusal t h n fixed live ≡ pick b (store_refusal h n (ledger_of t fixed live)) (Refused BadTable)
+    → own_refusal t h n fixed live ≡ pick b (store_refusal h n (ledger_of t fixed live)) (Err BadTable)
 unfolding own_refusal
 own_tests_lem t h n fixed live true e = rw e (store_tests_lem h n (ledger_of t fixed live))
 own_tests_lem t h n fixed live false e = rw e
 
 module _ (t : Table) (h : ℕ) (v fixed live : List ℕ) (s : sound_table t (length fixed) (length live) ≡ true) where
-  pub refused_store : (why : Refusal) → store_refusal h (length v) (ledger_of t fixed live) ≡ Refused why
+  pub refused_store : (why : Refusal) → store_refusal h (length v) (ledger_of t fixed live) ≡ Err why
       → (relengthed t h (length v) ≡ t) × (written_live h v (entries t) live ≡ live)
   refused_store why e =
       let u = store_refused (length fixed) (length live) h v fixed live why 0 0 t.count t.records (sound_parts t (length fixed) (length live) s).records e in
@@ -310,13 +308,13 @@ module _ (t : Table) (h : ℕ) (v fixed live : List ℕ) (s : sound_table t (len
 
   -- so on a sound table the till's own store is the store, whatever it answers
   pub own_store_lem : (own_refusal t h (length v) fixed live ≡ store_refusal h (length v) (ledger_of t fixed live))
-      × ((stored t h v fixed live).table ≡ relengthed t h (length v)) × (stored_live t h v fixed live ≡ written_live h v (entries t) live)
+      × (table_after t (stored t h v fixed live) ≡ relengthed t h (length v)) × (stored_live t h v fixed live ≡ written_live h v (entries t) live)
   unfolding stored stored_live
   own_store_lem =
       rw (own_tests_lem t h (length v) fixed live true s)
       (refl, (by (store_refusal h (length v) (ledger_of t fixed live)) refl).0, (by (store_refusal h (length v) (ledger_of t fixed live)) refl).1)
     where
-      by : (o : Outcome) → store_refusal h (length v) (ledger_of t fixed live) ≡ o
-          → ((changed_by o (relengthed t h (length v)) t).table ≡ relengthed t h (length v)) × (live_by o (written_live h v (entries t) live) live ≡ written_live h v (entries t) live)
-      by Accepted e = (refl, refl)
-      by (Refused why) e = let k = refused_store why e in (sym k.0, sym k.1)
+      by : (o : Result Unit Refusal) → store_refusal h (length v) (ledger_of t fixed live) ≡ o
+          → (table_after t (changed_by o (relengthed t h (length v))) ≡ relengthed t h (length v)) × (live_by o (written_live h v (entries t) live) live ≡ written_live h v (entries t) live)
+      by (Ok u) e = (refl, refl)
+      by (Err why) e = let k = refused_store why e in (sym k.0, sym k.1)

@@ -1,5 +1,5 @@
 -- Document 01, "Refusal numbers" and "Table, link and the till's own stores": a new table, and adding to one.
-use Rattle.std.specs.Prelude.{ℕ, ◌+◌, Bool, false, List, [], ◌∷◌, ◌++◌, set, replicate, ltb}
+use Rattle.std.specs.Prelude.{ℕ, ◌+◌, Bool, false, List, [], ◌∷◌, ◌++◌, Result, Ok, Err, set, replicate, ltb}
 use Rattle.codec.specs.Cases.{pick}
 use Rattle.codec.specs.declared.Refusal.{Refusal}
 use Rattle.codec.specs.declared.Refusal.TheVariants.{TableFull, BadHandle, BadType, BadValue, NoRoom, BadTable}
@@ -8,9 +8,6 @@ use Rattle.attributes.specs.Ledger.{Item, holding}
 use Rattle.attributes.specs.Records.{entries, value_of}
 use Rattle.attributes.specs.Soundness.{live_ok, handle_ok, type_ok, value_ok, space_ok, slots_end, sound_table}
 use Rattle.attributes.specs.declared.Addition.{Addition}
-use Rattle.attributes.specs.declared.Changed.{Changed}
-use Rattle.attributes.specs.declared.Outcome.{Outcome}
-use Rattle.attributes.specs.declared.Outcome.TheVariants.{Accepted, Refused}
 use Rattle.attributes.specs.declared.Place.{Place}
 use Rattle.attributes.specs.declared.Place.TheVariants as place
 use Rattle.attributes.specs.declared.Record.{Record}
@@ -19,17 +16,19 @@ use Rattle.attributes.specs.declared.Room.TheVariants as room
 use Rattle.attributes.specs.declared.Table.{Table}
 
 -- the first test that fails gives the refusal
-abbrev pub tested : List (Bool × Refusal) → Outcome
-tested [] = Accepted
-tested (test ∷ tests) = pick test.0 (tested tests) (Refused test.1)
+abbrev pub tested : List (Bool × Refusal) → Result Unit Refusal
+tested [] = Ok tt
+tested (test ∷ tests) = pick test.0 (tested tests) (Err test.1)
 
--- a refusal leaves the table as it was
-abbrev pub changed_by : Outcome → Table → Table → Changed
-changed_by Accepted next t = record { outcome = Accepted; table = next }
-changed_by (Refused why) next t = record { outcome = Refused why; table = t }
+-- What a call answers whose tests say this: the changed table, or the refusal.
+abbrev pub changed_by : Result Unit Refusal → Table → Result Table Refusal
+changed_by (Ok u) next = Ok next
+changed_by (Err why) next = Err why
 
-abbrev pub refusing : Table → Refusal → Changed
-refusing t why = record { outcome = Refused why; table = t }
+-- The table that a caller has after such a call: a refusal leaves its own, `t`, as it was.
+abbrev pub table_after : Table → Result Table Refusal → Table
+table_after t (Ok next) = next
+table_after t (Err why) = t
 
 -- A table with no record, built for areas of these lengths. The places that do not count hold a blank record.
 abbrev pub blank : Record
@@ -46,12 +45,12 @@ blank = record {
 abbrev pub empty_table : ℕ → ℕ → Table
 empty_table fl ll = record { records = replicate 64 blank; count = 0; fixed_len = fl; live_len = ll }
 
--- A new table: refusal 11 for a live area over 32,768 bytes, with an empty table for no bytes beside it.
-abbrev pub new_refusal : ℕ → Outcome
+-- A new table: refusal 11 for a live area over 32,768 bytes.
+abbrev pub new_refusal : ℕ → Result Unit Refusal
 new_refusal ll = tested ((live_ok ll, BadTable) ∷ [])
 
-unfoldable pub new_table : ℕ → ℕ → Changed
-new_table fl ll = changed_by (new_refusal ll) (empty_table fl ll) (empty_table 0 0)
+unfoldable pub new_table : ℕ → ℕ → Result Table Refusal
+new_table fl ll = changed_by (new_refusal ll) (empty_table fl ll)
 
 -- the handle of the last of some records, and where their slots end; `last` and `at` where there are none
 abbrev pub last_handle : ℕ → List Record → ℕ
@@ -89,7 +88,7 @@ add_tests t a fl ll =
     ∷ (space_ok ll (used 0 (entries t)) a.room, NoRoom)
     ∷ []
 
-unfoldable pub add_refusal : Table → Addition → ℕ → ℕ → Outcome
+unfoldable pub add_refusal : Table → Addition → ℕ → ℕ → Result Unit Refusal
 add_refusal t a fl ll = tested (add_tests t a fl ll)
 
 -- the table with one record more
@@ -101,17 +100,17 @@ appended t r = record {
   live_len = t.live_len;
 }
 
-unfoldable pub added : Table → Addition → ℕ → ℕ → Changed
-added t a fl ll = changed_by (add_refusal t a fl ll) (appended t (fresh (used 0 (entries t)) a)) t
+unfoldable pub added : Table → Addition → ℕ → ℕ → Result Table Refusal
+added t a fl ll = changed_by (add_refusal t a fl ll) (appended t (fresh (used 0 (entries t)) a))
 
 -- The attribute that an addition makes, as the ledger has it: the slot's place does not show, and a live value is empty.
 abbrev pub fresh_item : List ℕ → Addition → Item
 fresh_item fixed a = holding (fresh 0 a) (value_of (fresh_place 0 a.room) fixed [])
 
 -- the additions that were accepted so far, and one more where it is accepted too
-abbrev pub joins : Outcome → Addition → List Addition → List Addition
-joins Accepted a adds = adds ++ a ∷ []
-joins (Refused why) a adds = adds
+abbrev pub joins : Result Unit Refusal → Addition → List Addition → List Addition
+joins (Ok u) a adds = adds ++ a ∷ []
+joins (Err why) a adds = adds
 
 -- the records that additions make one after the other, the first live slot at `at`
 abbrev pub layout : ℕ → List Addition → List Record

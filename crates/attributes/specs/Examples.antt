@@ -1,11 +1,11 @@
 -- Tables, additions and stores to try the rules on: document 01, "Refusal numbers", in the order of the tests.
-use Rattle.std.specs.Prelude.{ℕ, zero, suc, true, false, List, [], ◌∷◌, replicate}
+use Rattle.std.specs.Prelude.{ℕ, zero, suc, true, false, List, [], ◌∷◌, Result, replicate}
+use Rattle.codec.specs.declared.Refusal.{Refusal}
 use Rattle.ble_uuid.specs.Uuids.{short}
 use Rattle.ble_uuid.specs.declared.Uuid.{Uuid}
 use Rattle.attributes.specs.Additions.{blank, empty_table, add_refusal}
 use Rattle.attributes.specs.Stores.{own_refusal}
 use Rattle.attributes.specs.declared.Addition.{Addition}
-use Rattle.attributes.specs.declared.Outcome.{Outcome}
 use Rattle.attributes.specs.declared.Place.{Place}
 use Rattle.attributes.specs.declared.Place.TheVariants as place
 use Rattle.attributes.specs.declared.Record.{Record}
@@ -24,7 +24,7 @@ wanted handle kind capacity = record {
   room = Live capacity;
 }
 
-abbrev pub adding_told : ℕ → Addition → Outcome
+abbrev pub adding_told : ℕ → Addition → Result Unit Refusal
 adding_told lent a = add_refusal (empty_table 0 0) a lent 0
 
 -- records of type 2A19 at these places, with the handles from `h` on; and a table of 64 of them without a value
@@ -56,5 +56,5 @@ two_table = record {
   live_len = 1;
 }
 
-abbrev pub store_told : List ℕ → ℕ → ℕ → Outcome
+abbrev pub store_told : List ℕ → ℕ → ℕ → Result Unit Refusal
 store_told lent h n = own_refusal two_table h n (0x41 ∷ []) lent

@@ -1,21 +1,18 @@
 -- The first with a handle, of a list of anything that has one: what holds of it, and that a list made of another has it at the same
 -- place. And the record that is found at a handle: it counts, it has the handle, and it gives what the first one with the handle
--- gives. The laws on `drop` are for a walk over the records, one at a time.
-use Prim.Native.Nat.{ℕ, suc, ◌+◌, ◌-◌, ◌<◌, ◌≤◌, min}
-use Rattle.std.specs.Prelude.{Bool, ◌≡◌, length, take, drop, get_or, leb}
+-- gives.
+use Rattle.std.specs.Prelude.{ℕ, zero, suc, ◌+◌, ◌<◌, min, Bool, ◌≡◌, refl, List, [], ◌∷◌, Some, None, map, length, take, get_or, leb, eqb, cond}
+use Rattle.std.specs.List.{position_from}
 use Rattle.std.proofs.Math.Bool.{true, false}
-use Rattle.std.proofs.Math.Path.{refl, ap}
-use Rattle.std.proofs.Common.{sym, ◌∙◌, add-one, drop_of_length-le, length-take, length-take-le, drop-cons, get_or-take, take_all, eq-eqb, ne_eqb, eqb-true, leb-true, leb-false}
-use mathlib.Core.List.{List, [], ◌∷◌, map}
-use native.Mathlib.Omega.{arith}
-use Rattle.std.proofs.Math.Dec.{eqb}
+use Rattle.std.proofs.Common.{sym, ◌∙◌, ap, arith, not-suc-le-zero, le_of_suc-le-suc, suc-le-suc, length-take, get_or-take, take_all, eqb-true, leb-true, leb-false}
+use Rattle.std.proofs.lemmas.List.Quantifiers.{position-Some}
+use Rattle.std.proofs.lemmas.Iterator.Adapters.{position_from-zero}
 use Rattle.codec.specs.CasesLaws.{impossible}
 use Rattle.codec.specs.Cases.{pick}
 use Rattle.attributes.specs.Additions.{blank}
 use Rattle.attributes.specs.Ledger.{Item, item, item_at}
 use Rattle.attributes.specs.Lists.{Each, first_at}
-use Rattle.attributes.specs.Records.{entries, record_at, find_from, find_in}
-use Rattle.attributes.specs.declared.Sought.TheVariants.{At, Missing}
+use Rattle.attributes.specs.Records.{entries, record_at, find_in}
 use Rattle.attributes.specs.declared.Record.{Record}
 use Rattle.attributes.specs.declared.Table.{Table}
 
@@ -52,88 +49,49 @@ pub item_first : {A : Type 0} (fixed live : List ℕ) (h : ℕ) (gives : Item �
     → item_at h gives none (map (item fixed live) rs) ≡ record_at h (λ (r : Record). gives (item fixed live r)) none rs
 item_first fixed live h gives none rs = first_map (item fixed live) (λ (i : Item). i.handle) h gives none rs
 
--- a walk over the first `n` records
-step : (h i n : ℕ) (l : List Record) (d : Record) → i < n → n ≤ length l
-    → find_from i h (drop i (take n l)) ≡ pick (eqb (get_or l i d).handle h) (At i) (find_from (suc i) h (drop (suc i) (take n l)))
-unfolding find_from
-step h i n l d p q =
-    let k : i < length (take n l) = rw (length-take-le n l) (omega arith) in
-    rw (drop-cons (take n l) i d k, get_or-take n l i d p)
+-- none has the handle: what is given then. And the one at a place, where none before it has the handle: it is what is found.
+missing_from : {A B : Type 0} (handle : A → ℕ) (h : ℕ) (gives : A → B) (none : B) (j : ℕ) (l : List A)
+    → position_from (λ (x : A). eqb (handle x) h) j l ≡ None → first_at handle h gives none l ≡ none
+missing_from handle h gives none j [] e = refl
+missing_from {A = A} handle h gives none j (x ∷ l) e = by (eqb (handle x) h) e (missing_from handle h gives none (j + 1) l)
+  where
+    by : (b : Bool) → cond b (Some j) (position_from (λ (y : A). eqb (handle y) h) (j + 1) l) ≡ None
+        → (position_from (λ (y : A). eqb (handle y) h) (j + 1) l ≡ None → first_at handle h gives none l ≡ none)
+        → pick b (gives x) (first_at handle h gives none l) ≡ none
+    by true e f = impossible (cc)
+    by false e f = f e
 
-pub find_here : (h i n : ℕ) (l : List Record) (d : Record) → i < n → n ≤ length l → (get_or l i d).handle ≡ h → find_from i h (drop i (take n l)) ≡ At i
-find_here h i n l d p q e = step h i n l d p q ∙ rw (eq-eqb _ _ e)
+pub missing_gives : {A : Type 0} (h : ℕ) (gives : Record → A) (none : A) (rs : List Record) → find_in h rs ≡ None → record_at h gives none rs ≡ none
+missing_gives h gives none rs e =
+    missing_from (λ (r : Record). r.handle) h gives none 0 rs (sym (position_from-zero (λ (r : Record). eqb r.handle h) rs) ∙ e)
 
-pub find_next : (h i n : ℕ) (l : List Record) (d : Record) → i < n → n ≤ length l → ((get_or l i d).handle ≡ h → ⊥)
-    → find_from i h (drop i (take n l)) ≡ find_from (i + 1) h (drop (i + 1) (take n l))
-find_next h i n l d p q e = step h i n l d p q ∙ rw (ne_eqb _ _ e, add-one i)
+first_there : {A B : Type 0} (handle : A → ℕ) (h : ℕ) (gives : A → B) (none : B) (l : List A) (i : ℕ) (d : A) → i < length l → eqb (handle (get_or l i d)) h ≡ true
+    → ((k : ℕ) → k < i → eqb (handle (get_or l k d)) h ≡ false) → first_at handle h gives none l ≡ gives (get_or l i d)
+first_there handle h gives none [] i d p e f = absurd (not-suc-le-zero p)
+first_there handle h gives none (x ∷ l) zero d p e f = rw e
+first_there handle h gives none (x ∷ l) (suc i) d p e f =
+    rw (f 0 (omega arith)) (first_there handle h gives none l i d (le_of_suc-le-suc p) e (λ k q. f (suc k) (suc-le-suc q)))
 
-pub find_none : (h i n : ℕ) (l : List Record) → n ≤ i → n ≤ length l → find_from i h (drop i (take n l)) ≡ Missing
-unfolding find_from
-find_none h i n l p q =
-    let k : length (take n l) ≤ i = rw (length-take-le n l) p in
-    rw (drop_of_length-le (take n l) k)
-
--- what is found
-module _ {A : Type 0} (h : ℕ) (gives : Record → A) (none : A) where
-  pub missing_gives : (j : ℕ) (rs : List Record) → find_from j h rs ≡ Missing → record_at h gives none rs ≡ none
-  unfolding find_from
-  missing_gives j [] e = refl
-  missing_gives j (r ∷ rs) e = by (eqb r.handle h) e (missing_gives (suc j) rs)
-    where
-      by : (b : Bool) → pick b (At j) (find_from (suc j) h rs) ≡ Missing → (find_from (suc j) h rs ≡ Missing → record_at h gives none rs ≡ none)
-          → pick b (gives r) (record_at h gives none rs) ≡ none
-      by true e f = impossible (cc)
-      by false e f = f e
-
-  -- the record `i - j` of these, which has the handle
-  Found : ℕ → ℕ → List Record → Record → Type 0
-  Found j i rs d = (j ≤ i) × (i < j + length rs) × ((get_or rs (i - j) d).handle ≡ h) × (record_at h gives none rs ≡ gives (get_or rs (i - j) d))
-
-  found_from : (j i : ℕ) (rs : List Record) (d : Record) → find_from j h rs ≡ At i → Found j i rs d
-  unfolding find_from Found
-  found_from j i [] d e = impossible (cc)
-  found_from j i (r ∷ rs) d e = by (eqb r.handle h) refl e (found_from (suc j) i rs d)
-    where
-      by : (b : Bool) → eqb r.handle h ≡ b → pick b (At j) (find_from (suc j) h rs) ≡ At i → (find_from (suc j) h rs ≡ At i → Found (suc j) i rs d)
-          → (j ≤ i) × (i < j + suc (length rs)) × ((get_or (r ∷ rs) (i - j) d).handle ≡ h)
-          × (pick b (gives r) (record_at h gives none rs) ≡ gives (get_or (r ∷ rs) (i - j) d))
-      by true q e f =
-          let s : j ≡ i = cc in
-          let z : i - j ≡ 0 = omega arith in
-          (omega arith, omega arith, rw z (eqb-true r.handle h q), rw z)
-      by false q e f =
-          let g = f e in
-          let z : i - j ≡ suc (i - suc j) = omega arith in
-          (omega arith, omega arith, rw z g.2, rw z g.3)
-
--- The same for the first `n` records of an array, as code has them.
-module _ (h n i : ℕ) (l : List Record) (d : Record) (e : find_in h (take n l) ≡ At i) where
-  short : (length (take n l) ≤ n) × (length (take n l) ≤ length l)
-  short = (simp length-take (omega arith), simp length-take (omega arith))
+-- What is found among the first `n` records of an array, as code has them.
+module _ (h n i : ℕ) (l : List Record) (d : Record) (e : find_in h (take n l) ≡ Some i) where
+  there : (i < length (take n l)) × (eqb (get_or (take n l) i d).handle h ≡ true) × ((k : ℕ) → k < i → eqb (get_or (take n l) k d).handle h ≡ false)
+  there = position-Some (λ (r : Record). eqb r.handle h) (take n l) i d e
 
   pub found_below : i < n
-  unfolding Found
-  found_below = omega (arith, (found_from h (λ r. r) d 0 i (take n l) d e).1, short.0)
+  found_below = let q : i < min n (length l) = simp length-take at there.0 in omega arith
 
   pub found_inside : i < length l
-  unfolding Found
-  found_inside = omega (arith, (found_from h (λ r. r) d 0 i (take n l) d e).1, short.1)
-
-  in_front : get_or (take n l) (i - 0) d ≡ get_or l i d
-  in_front =
-      let z : i - 0 ≡ i = omega arith in
-      ap (λ (j : ℕ). get_or (take n l) j d) z ∙ get_or-take n l i d found_below
+  found_inside = let q : i < min n (length l) = simp length-take at there.0 in omega arith
 
   pub found_handle : (get_or l i d).handle ≡ h
-  unfolding Found
-  found_handle = ap (λ (r : Record). r.handle) (sym in_front) ∙ (found_from h (λ r. r) d 0 i (take n l) d e).2
+  found_handle = eqb-true _ _ (rw (sym (get_or-take n l i d found_below)) there.1)
 
   pub found_gives : {A : Type 0} (gives : Record → A) (none : A) → record_at h gives none (take n l) ≡ gives (get_or l i d)
-  unfolding Found
-  found_gives gives none = (found_from h gives none 0 i (take n l) d e).3 ∙ ap gives in_front
+  found_gives gives none =
+      first_there (λ (r : Record). r.handle) h gives none (take n l) i d there.0 there.1 there.2 ∙ ap gives (get_or-take n l i d found_below)
 
 -- a record that is found has a number below 64, for an array of 64
-pub found_64 : (t : Table) (h i : ℕ) → length t.records ≡ 64 → find_in h (entries t) ≡ At i → i < 64
+pub found_64 : (t : Table) (h i : ℕ) → length t.records ≡ 64 → find_in h (entries t) ≡ Some i → i < 64
 found_64 t h i full e = omega (arith, full, found_inside h t.count i t.records blank e)
 
 -- the records that count, where code looks at no more than the array has

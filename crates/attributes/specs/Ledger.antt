@@ -1,14 +1,13 @@
 -- The ledger of a table: what its attributes hold, in order, with no address in it (document 01, "Table, link and the till's own
 -- stores"). The till's lookup is defined on it.
-use Rattle.std.specs.Prelude.{ℕ, Bool, List, [], map, length}
+use Rattle.std.specs.Prelude.{ℕ, Bool, List, [], Result, Ok, Err, map, length}
 use Rattle.codec.specs.Cases.{pick}
+use Rattle.codec.specs.declared.Refusal.{Refusal}
 use Rattle.codec.specs.declared.Refusal.TheVariants.{UnknownHandle, BadTable}
 use Rattle.ble_uuid.specs.Uuids.{own}
 use Rattle.attributes.specs.Lists.{first_at}
 use Rattle.attributes.specs.Records.{Slot, entries, slot_of, value_of}
 use Rattle.attributes.specs.Soundness.{sound_table}
-use Rattle.attributes.specs.declared.Outcome.{Outcome}
-use Rattle.attributes.specs.declared.Outcome.TheVariants.{Accepted, Refused}
 use Rattle.attributes.specs.declared.Record.{Record}
 use Rattle.attributes.specs.declared.Table.{Table}
 
@@ -62,11 +61,11 @@ abbrev pub value_at : ℕ → List Item → List ℕ
 value_at h is = item_at h (λ i. i.value) [] is
 
 -- The till's lookup, whatever the marks: its refusal (11, then 8), and its value, which is empty on a refusal.
-abbrev pub known : ℕ → List Item → Outcome
-known h is = item_at h (λ i. Accepted) (Refused UnknownHandle) is
+abbrev pub known : ℕ → List Item → Result Unit Refusal
+known h is = item_at h (λ i. Ok tt) (Err UnknownHandle) is
 
-unfoldable pub lookup_refusal : Table → ℕ → List ℕ → List ℕ → Outcome
-lookup_refusal t h fixed live = pick (sound_table t (length fixed) (length live)) (known h (ledger_of t fixed live)) (Refused BadTable)
+unfoldable pub lookup_refusal : Table → ℕ → List ℕ → List ℕ → Result Unit Refusal
+lookup_refusal t h fixed live = pick (sound_table t (length fixed) (length live)) (known h (ledger_of t fixed live)) (Err BadTable)
 
 unfoldable pub looked_up : Table → ℕ → List ℕ → List ℕ → List ℕ
 looked_up t h fixed live = pick (sound_table t (length fixed) (length live)) (value_at h (ledger_of t fixed live)) []

@@ -1,5 +1,5 @@
 -- Lists: what holds of each element, and the first with a handle, of anything that has one.
-use Rattle.std.specs.Prelude.{ℕ, suc, List, [], ◌∷◌, eqb}
+use Rattle.std.specs.Prelude.{ℕ, List, [], ◌∷◌, eqb}
 use Rattle.codec.specs.Cases.{pick}
 
 abbrev pub Each : {A : Type 0} → (A → Type 0) → List A → Type 0
@@ -10,8 +10,3 @@ Each Q (x ∷ xs) = Q x × Each Q xs
 abbrev pub first_at : {A B : Type 0} → (A → ℕ) → ℕ → (A → B) → B → List A → B
 first_at handle h gives none [] = none
 first_at handle h gives none (x ∷ xs) = pick (eqb (handle x) h) (gives x) (first_at handle h gives none xs)
-
--- each with its number, where the first has the number `i`
-abbrev pub numbered : {A : Type 0} → ℕ → List A → List (ℕ × A)
-numbered i [] = []
-numbered i (x ∷ xs) = (i, x) ∷ numbered (suc i) xs

@@ -1,12 +1,10 @@
 -- Document 01, "Table, link and the till's own stores": records, the place of a record's value, and how a record is found.
-use Rattle.std.specs.Prelude.{ℕ, Bool, true, false, List, map, take, drop, leb}
-use Rattle.attributes.specs.Lists.{first_at, numbered}
+use Rattle.std.specs.Prelude.{ℕ, Bool, true, false, List, Option, map, take, drop, leb, position, ◌==◌}
+use Rattle.attributes.specs.Lists.{first_at}
 use Rattle.attributes.specs.declared.Place.{Place}
 use Rattle.attributes.specs.declared.Place.TheVariants.{Fixed, Live}
 use Rattle.attributes.specs.declared.Record.{Record}
 use Rattle.attributes.specs.declared.Table.{Table}
-use Rattle.attributes.specs.declared.Sought.{Sought}
-use Rattle.attributes.specs.declared.Sought.TheVariants.{At, Missing}
 
 -- the records that count; what stands behind them in the array is not looked at
 abbrev pub entries : Table → List Record
@@ -67,12 +65,9 @@ bare r = lengthened r 0
 abbrev pub skeleton : Table → List Record
 skeleton t = map bare (entries t)
 
--- the record with a handle; and its number, where the first of these records has the number `i`
+-- the record with a handle; and its number among these, from 0 on
 abbrev pub record_at : {A : Type 0} → ℕ → (Record → A) → A → List Record → A
 record_at h gives none rs = first_at (λ (r : Record). r.handle) h gives none rs
 
-unfoldable pub find_from : ℕ → ℕ → List Record → Sought
-find_from i h rs = first_at (λ (x : ℕ × Record). x.1.handle) h (λ (x : ℕ × Record). At x.0) Missing (numbered i rs)
-
-abbrev pub find_in : ℕ → List Record → Sought
-find_in h rs = find_from 0 h rs
+abbrev pub find_in : ℕ → List Record → Option ℕ
+find_in h rs = position (λ (r : Record). r.handle == h) rs

@@ -1,6 +1,6 @@
 -- Document 01, "Table, link and the till's own stores": what a store does, to the table, to the live bytes and to the ledger, and
 -- the till's own store with its refusals. A store that concerns no record changes nothing.
-use Rattle.std.specs.Prelude.{ℕ, zero, suc, Bool, true, false, ◌&&◌, List, [], ◌∷◌, length, leb, eqb}
+use Rattle.std.specs.Prelude.{ℕ, zero, suc, Bool, true, false, ◌&&◌, List, [], ◌∷◌, Result, Ok, Err, length, leb, eqb}
 use Rattle.codec.specs.Buffer.{over_at}
 use Rattle.codec.specs.Cases.{pick}
 use Rattle.codec.specs.declared.Refusal.{Refusal}
@@ -9,9 +9,6 @@ use Rattle.attributes.specs.Additions.{tested, changed_by}
 use Rattle.attributes.specs.Ledger.{Item, ledger_of, valued, item_at}
 use Rattle.attributes.specs.Records.{Slot, Kept, Room, entries, slot_of, fits, is_room, start, lengthened}
 use Rattle.attributes.specs.Soundness.{sound_table}
-use Rattle.attributes.specs.declared.Changed.{Changed}
-use Rattle.attributes.specs.declared.Outcome.{Outcome}
-use Rattle.attributes.specs.declared.Outcome.TheVariants.{Accepted, Refused}
 use Rattle.attributes.specs.declared.Record.{Record}
 use Rattle.attributes.specs.declared.Table.{Table}
 
@@ -63,24 +60,24 @@ store_tests h n is = (present h is, UnknownHandle) ∷ (storable h is, NotStorab
 abbrev pub own_tests : Table → ℕ → ℕ → List ℕ → List ℕ → List (Bool × Refusal)
 own_tests t h n fixed live = (sound_table t (length fixed) (length live), BadTable) ∷ store_tests h n (ledger_of t fixed live)
 
-unfoldable pub own_refusal : Table → ℕ → ℕ → List ℕ → List ℕ → Outcome
+unfoldable pub own_refusal : Table → ℕ → ℕ → List ℕ → List ℕ → Result Unit Refusal
 own_refusal t h n fixed live = tested (own_tests t h n fixed live)
 
 -- what a slot says to a store, and the slot of the attribute with the handle: the last three tests in another form (`store_tests_lem`)
-abbrev pub slot_refusal : ℕ → Slot → Outcome
-slot_refusal n Kept = Refused NotStorable
-slot_refusal n (Room c) = pick (leb n c) Accepted (Refused TooLong)
+abbrev pub slot_refusal : ℕ → Slot → Result Unit Refusal
+slot_refusal n Kept = Err NotStorable
+slot_refusal n (Room c) = pick (leb n c) (Ok tt) (Err TooLong)
 
-abbrev pub store_refusal : ℕ → ℕ → List Item → Outcome
-store_refusal h n is = item_at h (λ i. slot_refusal n i.slot) (Refused UnknownHandle) is
+abbrev pub store_refusal : ℕ → ℕ → List Item → Result Unit Refusal
+store_refusal h n is = item_at h (λ i. slot_refusal n i.slot) (Err UnknownHandle) is
 
-unfoldable pub stored : Table → ℕ → List ℕ → List ℕ → List ℕ → Changed
-stored t h v fixed live = changed_by (own_refusal t h (length v) fixed live) (relengthed t h (length v)) t
+unfoldable pub stored : Table → ℕ → List ℕ → List ℕ → List ℕ → Result Table Refusal
+stored t h v fixed live = changed_by (own_refusal t h (length v) fixed live) (relengthed t h (length v))
 
 -- the live bytes after it; a refusal leaves them as they were
-abbrev pub live_by : Outcome → List ℕ → List ℕ → List ℕ
-live_by Accepted next live = next
-live_by (Refused why) next live = live
+abbrev pub live_by : Result Unit Refusal → List ℕ → List ℕ → List ℕ
+live_by (Ok u) next live = next
+live_by (Err why) next live = live
 
 unfoldable pub stored_live : Table → ℕ → List ℕ → List ℕ → List ℕ → List ℕ
 stored_live t h v fixed live = live_by (own_refusal t h (length v) fixed live) (written_live h v (entries t) live) live

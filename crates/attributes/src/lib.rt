@@ -3,7 +3,6 @@
 #![tactic(auto)]
 
 use ble_uuid::Uuid;
-use codec::Refusal;
 
 // Where a record's value stands: in the fixed bytes, or in a slot of the live bytes.
 #[derive(Clone, Copy)]
@@ -57,24 +56,4 @@ pub struct Addition {
     pub read_encrypted: bool,
     pub write_encrypted: bool,
     pub room: Room,
-}
-
-#[derive(Clone, Copy)]
-pub enum Outcome {
-    Accepted,
-    Refused(Refusal),
-}
-
-// A table after a call, beside what the call answers: an enum cannot hold an array.
-#[derive(Clone, Copy)]
-pub struct Changed {
-    pub outcome: Outcome,
-    pub table: Table,
-}
-
-// The number of a record among those of a table, from 0 on.
-#[derive(Clone, Copy)]
-pub enum Sought {
-    At(usize),
-    Missing,
 }
