@@ -1,7 +1,7 @@
 -- The laws of bytes and numbers, once over the width: a number's bytes and the number of bytes are each the inverse of the
 -- other within the width.
 use Rattle.std.specs.Prelude.{ℕ, zero, suc, ◌+◌, ◌*◌, ◌/◌, ◌%◌, ◌≤◌, ◌<◌, ◌≡◌, refl, List, [], ◌∷◌, ◌++◌, length, take, drop, get_or}
-use Rattle.std.proofs.Common.{sym, ap, ◌∙◌, mod-lt, mod-eq_of_lt, mul-add, mul_assoc, add-one, arith, drop_of_length-le, length-drop, drop-cons, take-add, drop-drop, length-take-le, le-leb}
+use Rattle.std.proofs.Common.{ap, ◌∙◌, mod-lt, mod-eq_of_lt, mul-add, mul_assoc, add-one, arith, drop_of_length-le, length-drop, drop-cons, take-add, drop-drop, length-take-le, le-leb}
 use Rattle.std.proofs.Math.Nat.{div-add-mod}
 use Rattle.std.proofs.Math.Seq.{take-nil}
 use Rattle.std.proofs.lemmas.Bool.{lt-leb}
@@ -81,6 +81,15 @@ pub number_split : (a b at : ℕ) (l : List ℕ) → at + a ≤ length l → num
 number_split a b at l h =
     let e : length (take a (drop at l)) ≡ a = length-take-le a (drop at l) (simp length-drop (omega arith)) in
     rw (take-add a b (drop at l), number_append (take a (drop at l)) (take b (drop a (drop at l))), e, drop-drop)
+
+-- a number of four bytes in its halves, wherever the list ends
+pub halves : (l : List ℕ) → number_of (take 4 l) ≡ number_of (take 2 l) + 65536 * number_of (take 2 (drop 2 l))
+halves [] = refl
+halves (x ∷ []) = omega arith
+halves (x ∷ y ∷ r) = omega arith
+
+pub number_halves : (at : ℕ) (l : List ℕ) → number_at 4 at l ≡ number_at 2 at l + 65536 * number_at 2 (at + 2) l
+number_halves at l = halves (drop at l) ∙ rw drop-drop
 
 -- the two answers of reading a number
 pub short : {A : Type 0} (width : ℕ) (value : ℕ → A) (refused : A) (src : List ℕ) → length src < width

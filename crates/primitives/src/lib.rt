@@ -3,138 +3,111 @@
 // A port of src/types/primitives.rs of trouble-host 0.8.0, which was changed: see NOTICE.
 #![tactic(auto)]
 
-ghost use Rattle.std.specs.Prelude.{◌≡◌, ◌+◌, ◌*◌};
+ghost use Rattle.std.specs.Prelude.{◌≡◌, ℕ, Ok, Err, refl};
 ghost use Rattle.codec.specs.Buffer.{laid, written};
 ghost use Rattle.codec.specs.declared.Error.TheVariants.{InvalidValue};
 ghost use Rattle.primitives.specs.Numbers.{bytes_of, number_at, reading};
 
-use codec::{Error, Written};
+use codec::Error;
 
-#[derive(Clone, Copy)]
-pub enum ReadU8 {
-    Value(u8),
-    Refused(Error),
-}
+// What codec.rs has as FixedSize, Encode and Decode, for the integers of packets. A value is known by its
+// number: `number` of it, and `of` that number it is.
+pub trait Primitive: Copy {
+    ghost SIZE: { ℕ };
 
-#[derive(Clone, Copy)]
-pub enum ReadU16 {
-    Value(u16),
-    Refused(Error),
-}
+    ghost of: { ℕ → Self };
 
-#[derive(Clone, Copy)]
-pub enum ReadU32 {
-    Value(u32),
-    Refused(Error),
-}
+    ghost number: { Self → ℕ };
 
-pub fn read_u8(src: &[u8]) -> ReadU8
-    ensures { result ≡ reading 1 ReadU8.Value (ReadU8.Refused InvalidValue) src.now }
-{
-    if src.len() < 1 {
-        return ReadU8::Refused(Error::InvalidValue);
+    const SIZE: usize;
+
+    // The value in the bytes from a place of a packet on. For readers that have compared the length already:
+    // what lies past the end counts as nothing.
+    fn at(src: &[u8], at: usize) -> Self
+        ensures { result ≡ of (number_at SIZE at src.now) };
+
+    // The value's bytes at the start of a lent buffer, and how many there are.
+    fn encode(self, dest: &mut [u8]) -> Result<usize, Error>
+        ensures value { result ≡ written (bytes_of SIZE (number self)) dest.old }
+        ensures dest_after { dest.new ≡ laid (bytes_of SIZE (number self)) dest.old };
+
+    // The value at the start of some bytes.
+    fn decode(src: &[u8]) -> Result<Self, Error>
+        ensures { result ≡ reading SIZE (λ n. Ok (of n)) (Err InvalidValue) src.now }
+    {
+        if src.len() < Self::SIZE {
+            return Err(Error::InvalidValue);
+        }
+        Ok(Self::at(src, 0))
     }
-    ReadU8::Value(src[0])
+
+    ghost itself: { (n : ℕ) → number (of n) ≡ n };
 }
 
-pub fn read_u16(src: &[u8]) -> ReadU16
-    ensures { result ≡ reading 2 ReadU16.Value (ReadU16.Refused InvalidValue) src.now }
-{
-    if src.len() < 2 {
-        return ReadU16::Refused(Error::InvalidValue);
+impl Primitive for u8 {
+    ghost SIZE = { 1 };
+
+    ghost of = { λ n. n };
+
+    ghost number = { λ v. v };
+
+    ghost itself = { λ n. refl };
+
+    const SIZE: usize = 1;
+
+    fn at(src: &[u8], at: usize) -> u8 {
+        if src.len() <= at { 0 } else { src[at] }
     }
-    ReadU16::Value(pair(src[0], src[1]))
+
+    fn encode(self, dest: &mut [u8]) -> Result<usize, Error> {
+        codec::write_bytes(&[self], dest)
+    }
 }
 
-pub fn read_u32(src: &[u8]) -> ReadU32
-    ensures { result ≡ reading 4 ReadU32.Value (ReadU32.Refused InvalidValue) src.now }
-{
-    if src.len() < 4 {
-        return ReadU32::Refused(Error::InvalidValue);
+impl Primitive for u16 {
+    ghost SIZE = { 2 };
+
+    ghost of = { λ n. n };
+
+    ghost number = { λ v. v };
+
+    ghost itself = { λ n. refl };
+
+    const SIZE: usize = 2;
+
+    fn at(src: &[u8], at: usize) -> u16 {
+        if src.len() <= at {
+            return 0;
+        }
+        u16::from_le_bytes([src[at], u8::at(src, at + 1)])
     }
-    ReadU32::Value(double(pair(src[0], src[1]), pair(src[2], src[3])))
+
+    fn encode(self, dest: &mut [u8]) -> Result<usize, Error> {
+        let [low, high] = self.to_le_bytes();
+        codec::write_bytes(&[low, high], dest)
+    }
 }
 
-pub fn write_u8(v: u8, dest: &mut [u8]) -> Written
-    ensures value { result ≡ written (bytes_of 1 v) dest.old }
-    ensures dest_after { dest.new ≡ laid (bytes_of 1 v) dest.old }
-{
-    if dest.len() < 1 {
-        return Written::Refused(Error::InsufficientSpace);
-    }
-    dest[0] = v;
-    Written::Done(1)
-}
+impl Primitive for u32 {
+    ghost SIZE = { 4 };
 
-pub fn write_u16(v: u16, dest: &mut [u8]) -> Written
-    ensures value { result ≡ written (bytes_of 2 v) dest.old }
-    ensures dest_after { dest.new ≡ laid (bytes_of 2 v) dest.old }
-{
-    if dest.len() < 2 {
-        return Written::Refused(Error::InsufficientSpace);
-    }
-    dest[0] = (v % 256) as u8;
-    dest[1] = (v / 256 % 256) as u8;
-    Written::Done(2)
-}
+    ghost of = { λ n. n };
 
-pub fn write_u32(v: u32, dest: &mut [u8]) -> Written
-    ensures value { result ≡ written (bytes_of 4 v) dest.old }
-    ensures dest_after { dest.new ≡ laid (bytes_of 4 v) dest.old }
-{
-    if dest.len() < 4 {
-        return Written::Refused(Error::InsufficientSpace);
-    }
-    dest[0] = (v % 256) as u8;
-    dest[1] = (v / 256 % 256) as u8;
-    dest[2] = (v / 256 / 256 % 256) as u8;
-    dest[3] = (v / 256 / 256 / 256 % 256) as u8;
-    Written::Done(4)
-}
+    ghost number = { λ v. v };
 
-// The byte, and the number in the two or four bytes, at a place of a packet. For readers that have
-// compared the length already: what lies past the end counts as nothing.
-pub fn u8_at(src: &[u8], at: usize) -> u8
-    ensures { result ≡ number_at 1 at src.now }
-{
-    if src.len() <= at {
-        return 0;
-    }
-    src[at]
-}
+    ghost itself = { λ n. refl };
 
-pub fn u16_at(src: &[u8], at: usize) -> u16
-    ensures { result ≡ number_at 2 at src.now }
-{
-    if src.len() <= at {
-        return 0;
-    }
-    if src.len() - at < 2 {
-        return pair(src[at], 0);
-    }
-    pair(src[at], src[at + 1])
-}
+    const SIZE: usize = 4;
 
-pub fn u32_at(src: &[u8], at: usize) -> u32
-    ensures { result ≡ number_at 4 at src.now }
-{
-    if src.len() <= at {
-        return 0;
+    fn at(src: &[u8], at: usize) -> u32 {
+        if src.len() <= at {
+            return 0;
+        }
+        u32::from(u16::at(src, at)) + 65536 * u32::from(u16::at(src, at + 2))
     }
-    if src.len() - at < 2 {
-        return double(u16_at(src, at), 0);
+
+    fn encode(self, dest: &mut [u8]) -> Result<usize, Error> {
+        let [a, b, c, d] = self.to_le_bytes();
+        codec::write_bytes(&[a, b, c, d], dest)
     }
-    double(u16_at(src, at), u16_at(src, at + 2))
-}
-
-fn pair(low: u8, high: u8) -> u16
-    ensures { result ≡ low + 256 * high }
-{
-    (low as u16) + 256 * (high as u16)
-}
-
-fn double(low: u16, high: u16) -> u32
-    ensures { result ≡ low + 65536 * high }
-{
-    (low as u32) + 65536 * (high as u32)
 }
