@@ -1,11 +1,11 @@
 -- The lines of a program's input. A line ends with LF; one CR before the end is ignored. Blank lines, and lines whose first
 -- character other than a blank is `#`, are passed over. A line longer than its room is one error, a comment too. Lines are
 -- counted from 1, all of them.
-use Rattle.std.specs.Prelude.{ℕ, ◌+◌, ◌-◌, Bool, true, false, ◌||◌, List, [], ◌∷◌, length, take, set, leb, ltb, eqb}
+use Rattle.std.specs.Prelude.{ℕ, ◌+◌, ◌-◌, ◌^◌, min, Bool, true, false, ◌||◌, List, [], ◌∷◌, Some, None, length, take, set, leb, ltb, eqb}
 use Rattle.codec.specs.Cases.{pick}
 use Rattle.text_lines.specs.declared.Lines.{Lines}
 use Rattle.text_lines.specs.declared.Seen.{Seen}
-use Rattle.text_lines.specs.declared.Seen.TheVariants.{More, Line, TooLong, Passed}
+use Rattle.text_lines.specs.declared.Seen.TheVariants.{Line, TooLong, Passed}
 use Rattle.text_lines.specs.declared.Stepped.{Stepped}
 
 -- a blank is a space or a tab
@@ -32,15 +32,16 @@ seen_of room line = pick (leb (length line) room) (pick (silent line) Passed (Li
 unfoldable pub judged : Lines → List ℕ → Seen
 judged lines buf = pick lines.long TooLong (seen_of (length buf - 1) (uncarriaged (take lines.len buf)))
 
+-- the next line's number, while there is one
 abbrev pub following : ℕ → ℕ
-following n = pick (ltb n 18446744073709551615) (n + 1) n
+following n = min (n + 1) (2 ^ 64 - 1)
 
 unfoldable pub end_of : Lines → List ℕ → Stepped
 end_of lines buf =
-    record { lines = record { len = 0; long = false; number = following lines.number }; seen = judged lines buf; number = lines.number }
+    record { lines = record { len = 0; long = false; number = following lines.number }; seen = Some (judged lines buf); number = lines.number }
 
 abbrev pub reading_of : Lines → ℕ → Bool → Stepped
-reading_of lines n long = record { lines = record { len = n; long = long; number = lines.number }; seen = More; number = lines.number }
+reading_of lines n long = record { lines = record { len = n; long = long; number = lines.number }; seen = None; number = lines.number }
 
 -- a character: LF ends the line, and any other is kept while there is room
 unfoldable pub step_of : Lines → ℕ → List ℕ → Stepped

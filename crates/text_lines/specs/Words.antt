@@ -1,5 +1,6 @@
 -- The words of a line: its runs of characters that are not blanks. And marks: letters of a given set, each at most once.
-use Rattle.std.specs.Prelude.{ℕ, zero, suc, ◌-◌, ◌≤◌, ◌≡◌, Bool, true, false, ◌||◌, List, [], ◌∷◌, length, take, drop, eqb}
+use Rattle.std.specs.Prelude.{ℕ, zero, suc, Bool, true, false, ◌||◌, List, [], ◌∷◌, eqb}
+use Rattle.std.specs.List.{list_any}
 use Rattle.codec.specs.Cases.{pick}
 use Rattle.text_lines.specs.Lines.{blank}
 
@@ -16,21 +17,14 @@ unfoldable pub behind : List ℕ → List ℕ
 behind [] = []
 behind (c ∷ cs) = pick (blank c) (c ∷ cs) (behind cs)
 
--- the run of characters from `from` to `to` is the word there
-pub record Ends (line : List ℕ) (from to : ℕ) : Type 0 where
-  pub onward : from ≤ to
-  pub inside : to ≤ length line
-  pub after : drop to line ≡ behind (drop from line)
-  pub word : take (to - from) (drop from line) ≡ front (drop from line)
-
 -- the word with the number `k`, counted from 0; empty where there are fewer words
 unfoldable pub word_of : ℕ → List ℕ → List ℕ
 word_of zero line = front (trimmed line)
 word_of (suc k) line = word_of k (behind (trimmed line))
 
-unfoldable pub member : ℕ → List ℕ → Bool
-member c [] = false
-member c (d ∷ ds) = pick (eqb d c) true (member c ds)
+-- whether a character stands in a word
+abbrev pub member : ℕ → List ℕ → Bool
+member c w = list_any (λ d. eqb d c) w
 
 -- each character is one of the letters, and stands there once
 unfoldable pub each_once : List ℕ → List ℕ → Bool

@@ -2,10 +2,9 @@
 // byte to `step` and answers a line as soon as `step` has seen its end.
 #![tactic(auto)]
 
-ghost use Rattle.std.specs.Prelude.{◌+◌, ◌≤◌, ◌<◌, min, ◌≡◌, false, length, take, drop};
-ghost use Rattle.text_lines.specs.Lines.{uncarriaged, silent, judged, end_of, reading_of, step_of, held_after, last_of};
-ghost use Rattle.text_lines.specs.Words.{trimmed, behind, word_of, member, each_once, marks_of};
-ghost use Rattle.text_lines.specs.Words.{Ends};
+ghost use Rattle.std.specs.Prelude.{◌≡◌, false, position};
+ghost use Rattle.text_lines.specs.Lines.{blank, uncarriaged, silent, judged, end_of, reading_of, step_of, held_after, last_of};
+ghost use Rattle.text_lines.specs.Words.{trimmed, front, behind, word_of, member, each_once, marks_of};
 
 // The line that is being read: how many of its characters the lent buffer holds, whether there were
 // more than it has room for, and the line's number.
@@ -16,20 +15,21 @@ pub struct Lines {
     pub number: u64,
 }
 
-// What a byte, or the end of the input, brought: nothing to answer yet; a line, which is the buffer's
-// first bytes, so many; a line that is too long; or a blank line or a comment.
-#[derive(Clone, Copy)]
+// What a whole line is: the buffer's first bytes, so many; a line that is too long; or a blank line or
+// a comment, which is passed over.
+#[derive(Clone, Copy, PartialEq, Eq)]
 pub enum Seen {
-    More,
     Line(usize),
     TooLong,
     Passed,
 }
 
+// The lines behind a byte, or behind the end of the input, and what it brought: a whole line or, as
+// yet, nothing.
 #[derive(Clone, Copy)]
 pub struct Stepped {
     pub lines: Lines,
-    pub seen: Seen,
+    pub seen: Option<Seen>,
     pub number: u64,
 }
 
@@ -43,105 +43,90 @@ pub fn new() -> Lines
     }
 }
 
-// How many characters a line has without a CR at its end.
-#[tactic(auto, using(crate::specs::LinesLaws::no_characters, crate::specs::LinesLaws::cr_ends, crate::specs::LinesLaws::other_ends))]
-fn chomp(line: &[u8]) -> usize
-    ensures line_value { uncarriaged line.now ≡ take result line.now }
-    ensures upper_bound { result ≤ length line.now }
+fn is_blank(c: u8) -> bool
+    ensures { result ≡ blank c }
 {
-    let n = line.len();
-    if n == 0 {
-        return 0;
+    c == b' ' || c == b'\t'
+}
+
+// A line without a CR at its end.
+#[tactic(auto, using(crate::proofs::Cuts::without_cr, crate::proofs::Cuts::no_cr))]
+fn chomp(line: &[u8]) -> &[u8]
+    ensures { result.now ≡ uncarriaged line.now }
+{
+    match line {
+        [rest @ .., last] if *last == b'\r' => rest,
+        _ => line,
     }
-    if line[n - 1] == 13 {
-        return n - 1;
-    }
-    n
 }
 
 // Whether a line is passed over.
-#[tactic(auto, using(crate::specs::LinesLaws::blank_space, crate::specs::LinesLaws::blank_tab, crate::specs::LinesLaws::no_blank, crate::specs::LinesLaws::silent_blank, crate::specs::LinesLaws::silent_first, crate::specs::LinesLaws::silent_none))]
+#[tactic(auto, unfolding(crate::specs::Lines::silent))]
 fn is_silent(line: &[u8]) -> bool
     ensures { result ≡ silent line.now }
 {
-    let mut i = 0;
-    while i < line.len() {
-        let c = line[i];
-        if c != 32 {
-            if c != 9 {
-                return c == 35;
-            }
+    for c in line {
+        if !is_blank(*c) {
+            return *c == b'#';
         }
-        i += 1;
     }
     true
 }
 
-fn least(a: usize, b: usize) -> usize
-    ensures { result ≡ min a b }
-{
-    if a < b { a } else { b }
-}
-
 // What a whole line is. The buffer has one place more than a line may have characters, for the CR.
-#[tactic(auto, using(crate::specs::LinesLaws::long_line, crate::specs::LinesLaws::whole_line, crate::specs::LinesLaws::whole_long, crate::specs::LinesLaws::whole_passed, crate::specs::LinesLaws::whole_kept))]
+#[tactic(auto, unfolding(crate::specs::Lines::judged))]
 fn judge(lines: Lines, buf: &[u8]) -> Seen
     ensures { result ≡ judged lines buf.now }
 {
     if lines.long {
         return Seen::TooLong;
     }
-    let held = least(lines.len, buf.len());
-    let n = chomp(&buf[0..held]);
-    if buf.len() <= n {
-        if 0 < n {
-            return Seen::TooLong;
-        }
+    let line = chomp(&buf[..lines.len.min(buf.len())]);
+    if buf.len().saturating_sub(1) < line.len() {
+        Seen::TooLong
+    } else if is_silent(line) {
+        Seen::Passed
+    } else {
+        Seen::Line(line.len())
     }
-    if is_silent(&buf[0..n]) {
-        return Seen::Passed;
-    }
-    Seen::Line(n)
 }
 
+#[tactic(auto, unfolding(crate::specs::Lines::end_of))]
 fn end(lines: Lines, buf: &[u8]) -> Stepped
     ensures { result ≡ end_of lines buf.now }
 {
-    let seen = judge(lines, buf);
-    let number = lines.number;
-    let mut next = number;
-    if number < 18446744073709551615 {
-        next = number + 1;
-    }
     Stepped {
         lines: Lines {
             len: 0,
             long: false,
-            number: next,
+            number: lines.number.saturating_add(1),
         },
-        seen,
-        number,
+        seen: Some(judge(lines, buf)),
+        number: lines.number,
     }
 }
 
 fn reading(lines: Lines, len: usize, long: bool) -> Stepped
     ensures { result ≡ reading_of lines len long }
 {
-    let number = lines.number;
     Stepped {
-        lines: Lines { len, long, number },
-        seen: Seen::More,
-        number,
+        lines: Lines {
+            len,
+            long,
+            number: lines.number,
+        },
+        seen: None,
+        number: lines.number,
     }
 }
 
 // One byte of the input.
-#[tactic(auto, using(crate::specs::LinesLaws::step_lf, crate::specs::LinesLaws::step_kept, crate::specs::LinesLaws::step_full))]
+#[tactic(auto, unfolding(crate::specs::Lines::step_of, crate::specs::Lines::held_after))]
 pub fn step(lines: Lines, c: u8, buf: &mut [u8]) -> Stepped
     ensures value { result ≡ step_of lines c buf.old }
     ensures buf_after { buf.new ≡ held_after lines c buf.old }
 {
-    if c == 10 {
+    if c == b'\n' {
         return end(lines, buf);
     }
     let len = lines.len;
@@ -153,117 +138,81 @@ pub fn step(lines: Lines, c: u8, buf: &mut [u8]) -> Stepped
 }
 
 // The end of the input: a last line without LF counts.
-#[tactic(auto, using(crate::specs::LinesLaws::last_long, crate::specs::LinesLaws::last_some, crate::specs::LinesLaws::last_none))]
+#[tactic(auto, unfolding(crate::specs::Lines::last_of))]
 pub fn last(lines: Lines, buf: &[u8]) -> Stepped
     ensures { result ≡ last_of lines buf.now }
 {
-    if lines.long {
-        return end(lines, buf);
+    if lines.long || 0 < lines.len {
+        end(lines, buf)
+    } else {
+        reading(lines, lines.len, lines.long)
     }
-    if 0 < lines.len {
-        return end(lines, buf);
-    }
-    reading(lines, lines.len, lines.long)
 }
 
-// The place of the first character at or behind `from` that is no blank.
-#[tactic(auto, using(crate::specs::LinesLaws::blank_space, crate::specs::LinesLaws::blank_tab, crate::specs::LinesLaws::no_blank, crate::specs::LinesLaws::trimmed_blank, crate::specs::LinesLaws::trimmed_first, crate::specs::LinesLaws::trimmed_none))]
-fn word_start(line: &[u8], from: usize) -> usize
-    requires { from ≤ length line.now }
-    ensures { (result ≤ length line.now) × (drop result line.now ≡ trimmed (drop from line.now)) }
+// A line from its first word on.
+#[tactic(auto, unfolding(crate::specs::Words::trimmed))]
+fn trim_start(line: &[u8]) -> &[u8]
+    ensures { result.now ≡ trimmed line.now }
 {
-    let mut i = from;
-    while i < line.len() {
-        let c = line[i];
-        if c != 32 {
-            if c != 9 {
-                return i;
-            }
-        }
-        i += 1;
+    let mut rest = line;
+    while let [first, behind @ ..] = rest
+        && is_blank(*first)
+    {
+        rest = behind;
     }
-    i
+    rest
 }
 
-// The place of the first blank at or behind `from`.
-#[tactic(auto, using(crate::specs::LinesLaws::blank_space, crate::specs::LinesLaws::blank_tab, crate::specs::LinesLaws::no_blank, crate::specs::LinesLaws::behind_blank, crate::specs::LinesLaws::behind_more, crate::specs::LinesLaws::behind_none, crate::specs::LinesLaws::word_on, crate::specs::LinesLaws::word_ends, crate::specs::LinesLaws::word_none))]
-fn word_end(line: &[u8], from: usize) -> usize
-    requires { from ≤ length line.now }
-    ensures { Ends line.now from result }
+fn first_blank(line: &[u8]) -> Option<usize>
+    ensures { result ≡ position blank line.now }
 {
-    let mut i = from;
-    while i < line.len() {
-        let c = line[i];
-        if c == 32 {
-            return i;
-        }
-        if c == 9 {
-            return i;
-        }
-        i += 1;
-    }
-    i
+    line.iter().position(|c| is_blank(*c))
+}
+
+// The word that a line begins with, and what stands behind it.
+#[tactic(auto, using(crate::proofs::Cuts::word_cut, crate::proofs::Cuts::rest_cut))]
+fn split_word(line: &[u8]) -> (&[u8], &[u8])
+    ensures word { result.0.now ≡ front line.now }
+    ensures rest { result.1.now ≡ behind line.now }
+{
+    line.split_at(first_blank(line).unwrap_or(line.len()))
 }
 
 // The word with the number k, counted from 0; empty where there are fewer words.
-#[tactic(auto, using(crate::specs::LinesLaws::words_start, crate::specs::LinesLaws::words_next, crate::specs::LinesLaws::words_here))]
+#[tactic(auto, using(crate::proofs::Cuts::word_passed, crate::proofs::Cuts::word_here))]
 pub fn word(line: &[u8], k: usize) -> &[u8]
     ensures { result.now ≡ word_of k line.now }
 {
-    let mut at = word_start(line, 0);
-    let mut left = k;
-    while 0 < left {
-        let e = word_end(line, at);
-        at = word_start(line, e);
-        left -= 1;
+    let mut rest = line;
+    for _ in 0..k {
+        rest = split_word(trim_start(rest)).1;
     }
-    let e = word_end(line, at);
-    &line[at..e]
+    split_word(trim_start(rest)).0
 }
 
 // Whether a letter stands in a word.
-#[tactic(auto, using(crate::specs::LinesLaws::member_here, crate::specs::LinesLaws::member_on, crate::specs::LinesLaws::member_none))]
 pub fn has(word: &[u8], letter: u8) -> bool
     ensures { result ≡ member letter word.now }
 {
-    let mut i = 0;
-    while i < word.len() {
-        if word[i] == letter {
-            return true;
-        }
-        i += 1;
-    }
-    false
+    word.contains(&letter)
 }
 
-#[tactic(auto, using(crate::specs::LinesLaws::once_other, crate::specs::LinesLaws::once_twice, crate::specs::LinesLaws::once_on, crate::specs::LinesLaws::once_none))]
+#[tactic(auto, unfolding(crate::specs::Words::each_once))]
 fn once(letters: &[u8], word: &[u8]) -> bool
     ensures { result ≡ each_once letters.now word.now }
 {
-    let mut i = 0;
-    while i < word.len() {
-        let c = word[i];
-        if !has(letters, c) {
+    for (i, c) in word.iter().enumerate() {
+        if !letters.contains(c) || word[i + 1..].contains(c) {
             return false;
         }
-        if has(&word[i + 1..], c) {
-            return false;
-        }
-        i += 1;
     }
     true
 }
 
 // Whether a word is MARKS of these letters: each at most once, in any order, or `-` for none.
-#[tactic(auto, using(crate::specs::LinesLaws::marks_dash, crate::specs::LinesLaws::marks_letters))]
+#[tactic(auto, unfolding(crate::specs::Words::marks_of))]
 pub fn marks(letters: &[u8], word: &[u8]) -> bool
     ensures { result ≡ marks_of letters.now word.now }
 {
-    if word.len() != 1 {
-        return once(letters, word);
-    }
-    if word[0] == 45 {
-        return true;
-    }
-    once(letters, word)
+    matches!(word, [b'-']) || once(letters, word)
 }
