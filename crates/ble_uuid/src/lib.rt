@@ -1,47 +1,29 @@
-// types/uuid.rs: the three forms of a UUID. An enum cannot hold an array, so a UUID is a struct of its
-// form and sixteen bytes; the form's own bytes stand first, and what stands behind them has no meaning.
+// types/uuid.rs: the three forms of a UUID, little-endian.
 //
 // A port of src/types/uuid.rs of trouble-host 0.8.0, which was changed: see NOTICE.
 #![tactic(auto)]
 
-ghost use Rattle.std.specs.Prelude.{◌≡◌, ◌≤◌, ◌++◌, length, take};
-ghost use Rattle.ble_uuid.specs.Uuids.{width_of, own, on_air, equal_types, equal, padded, base, att_type, att_bytes};
-ghost use Rattle.ble_uuid.specs.Uuids.{raw_of, short_of, formed, short, wide, long, no_uuid, sliced};
+ghost use Rattle.std.specs.Prelude.{◌≡◌, ◌≤◌, ◌++◌, length};
+ghost use Rattle.ble_uuid.specs.Uuids.{width_of, own, on_air, equal_types, equal, base, att_type, att_bytes};
+ghost use Rattle.ble_uuid.specs.Uuids.{raw_of, short_of, short, wide, long, no_uuid, sliced};
+ghost use Rattle.ble_uuid.specs.UuidsLaws.{equal_partial, equal_equivalence};
 
 use codec::Error;
-use primitives::ReadU16;
+use primitives::Primitive;
 
-#[derive(Clone, Copy)]
-pub enum Form {
-    Uuid16,
-    Uuid32,
-    Uuid128,
-}
-
-#[derive(Clone, Copy)]
-pub struct Uuid {
-    pub form: Form,
-    pub bytes: [u8; 16],
+#[derive(Clone, Copy, Debug)]
+pub enum Uuid {
+    Uuid16([u8; 2]),
+    Uuid32([u8; 4]),
+    Uuid128([u8; 16]),
 }
 
 // Bytes handed back by value: the first `len` count, and 00 stands behind them.
+// Kept: `att_bytes` makes sixteen bytes that no one lent, and there is no heap.
 #[derive(Clone, Copy)]
 pub struct Raw {
     pub bytes: [u8; 16],
     pub len: usize,
-}
-
-#[derive(Clone, Copy)]
-pub enum Checked {
-    Accepted,
-    Refused(Error),
-}
-
-// What some bytes are as a UUID. Beside a refusal stands the 16-bit 0000.
-#[derive(Clone, Copy)]
-pub struct Sliced {
-    pub answer: Checked,
-    pub uuid: Uuid,
 }
 
 // The Bluetooth base, 00000000-0000-1000-8000-00805F9B34FB, little-endian.
@@ -49,143 +31,120 @@ const BASE: [u8; 16] = [
     0xFB, 0x34, 0x9B, 0x5F, 0x80, 0x00, 0x00, 0x80, 0x00, 0x10, 0x00, 0x00, 0x00, 0x00, 0x00, 0x00,
 ];
 
+// Equality: form and the form's own bytes.
+// Kept: a derive would not go through `equal_types`, the one test that types' bytes are asked too.
+impl PartialEq for Uuid {
+    ghost eq = { equal };
+
+    ghost laws = { equal_partial };
+
+    fn eq(&self, other: &Uuid) -> bool {
+        equal_types(self.as_raw(), other.as_raw())
+    }
+}
+
+impl Eq for Uuid {
+    ghost laws = { equal_equivalence };
+}
+
 impl Uuid {
     pub fn new_short(val: u16) -> Self
         ensures { result ≡ short val }
     {
-        let mut bytes = [0u8; 16];
-        primitives::write_u16(val, &mut bytes);
-        Uuid {
-            form: Form::Uuid16,
-            bytes,
-        }
+        Uuid::Uuid16(val.to_le_bytes())
     }
 
     pub fn from_u32(val: u32) -> Self
         ensures { result ≡ wide val }
     {
-        let mut bytes = [0u8; 16];
-        primitives::write_u32(val, &mut bytes);
-        Uuid {
-            form: Form::Uuid32,
-            bytes,
-        }
+        Uuid::Uuid32(val.to_le_bytes())
     }
 
     pub fn new_long(val: [u8; 16]) -> Self
         ensures { result ≡ long val }
     {
-        Uuid {
-            form: Form::Uuid128,
-            bytes: val,
-        }
+        Uuid::Uuid128(val)
     }
 
     // The format of Find Information Response that this UUID is listed under.
-    pub fn get_att_type(self) -> u8
-        ensures { result ≡ att_type self.form }
+    pub fn get_att_type(&self) -> u8
+        ensures { result ≡ att_type self.now }
     {
-        let form = self.form;
-        match form {
-            Form::Uuid16 => 1,
-            Form::Uuid32 => 2,
-            Form::Uuid128 => 2,
+        match self {
+            Uuid::Uuid16(_) => 1,
+            Uuid::Uuid32(_) | Uuid::Uuid128(_) => 2,
         }
     }
 
     // The UUID's own bytes.
-    pub fn as_raw(self) -> Raw
-        ensures { result ≡ raw_of (own self) }
+    pub fn as_raw(&self) -> &[u8]
+        ensures { result.now ≡ own self.now }
     {
-        let form = self.form;
-        let all = self.bytes;
-        let len = width(form);
-        let bytes = pad(&all[0..len]);
-        Raw { bytes, len }
+        match self {
+            Uuid::Uuid16(bytes) => bytes,
+            Uuid::Uuid32(bytes) => bytes,
+            Uuid::Uuid128(bytes) => bytes,
+        }
     }
 
     // The bytes that a packet carries.
-    pub fn on_air(self) -> Raw
-        ensures { result ≡ raw_of (on_air self) }
+    #[tactic(auto, unfolding(crate::specs::Uuids::on_air))]
+    pub fn on_air(&self) -> &[u8]
+        ensures { result.now ≡ on_air self.now }
     {
         self.as_raw()
     }
 
     // The bytes under the format that `get_att_type` gives.
-    pub fn att_bytes(self) -> Raw
-        ensures { result ≡ raw_of (att_bytes self) }
+    pub fn att_bytes(&self) -> Raw
+        ensures { result ≡ raw_of (att_bytes self.now) }
     {
-        let form = self.form;
-        let all = self.bytes;
-        match form {
-            Form::Uuid16 => self.as_raw(),
-            Form::Uuid32 => {
-                let bytes = on_base(all);
-                Raw { bytes, len: 16 }
-            }
-            Form::Uuid128 => self.as_raw(),
+        match self {
+            Uuid::Uuid16(own) => in_front(own),
+            Uuid::Uuid32(own) => in_front(&on_base(*own)),
+            Uuid::Uuid128(own) => in_front(own),
         }
     }
 
     // The number of a 16-bit UUID.
-    pub fn as_short(self) -> ReadU16
-        ensures { result ≡ short_of self }
+    pub fn as_short(&self) -> Result<u16, Error>
+        ensures { result ≡ short_of self.now }
     {
-        let form = self.form;
-        let all = self.bytes;
-        match form {
-            Form::Uuid16 => ReadU16::Value(primitives::u16_at(&all, 0)),
-            Form::Uuid32 => ReadU16::Refused(Error::InvalidValue),
-            Form::Uuid128 => ReadU16::Refused(Error::InvalidValue),
+        match self {
+            Uuid::Uuid16(own) => Ok(u16::at(own, 0)),
+            Uuid::Uuid32(_) | Uuid::Uuid128(_) => Err(Error::InvalidValue),
         }
     }
 
-    // Equality: form and the form's own bytes.
-    pub fn eq(self, b: Uuid) -> bool
-        ensures { result ≡ equal self b }
+    // How many own bytes a UUID of this form has.
+    pub fn width(&self) -> usize
+        ensures { result ≡ width_of self.now }
     {
-        let f = self.form;
-        let g = b.form;
-        let x = self.bytes;
-        let y = b.bytes;
-        let n = width(f);
-        let m = width(g);
-        equal_types(&x[0..n], &y[0..m])
+        match self {
+            Uuid::Uuid16(_) => 2,
+            Uuid::Uuid32(_) => 4,
+            Uuid::Uuid128(_) => 16,
+        }
     }
 }
 
-// The 16-bit 0000, which stands where there is no UUID.
+// The 16-bit 0000, for a record that holds none.
 pub fn no_uuid() -> Uuid
     ensures { result ≡ no_uuid }
 {
-    Uuid {
-        form: Form::Uuid16,
-        bytes: [0; 16],
-    }
+    Uuid::Uuid16([0; 2])
 }
 
-pub fn from_slice(value: &[u8]) -> Sliced
+// 2, 4 or 16 bytes are a UUID.
+#[tactic(auto, unfolding(crate::specs::Uuids::sliced))]
+pub fn from_slice(value: &[u8]) -> Result<Uuid, Error>
     ensures { result ≡ sliced value.now }
 {
     match value.len() {
-        2 => accepted(Form::Uuid16, value),
-        4 => accepted(Form::Uuid32, value),
-        16 => accepted(Form::Uuid128, value),
-        _ => Sliced {
-            answer: Checked::Refused(Error::InvalidValue),
-            uuid: no_uuid(),
-        },
-    }
-}
-
-// How many bytes a UUID of this form has.
-pub fn width(form: Form) -> usize
-    ensures { result ≡ width_of form }
-{
-    match form {
-        Form::Uuid16 => 2,
-        Form::Uuid32 => 4,
-        Form::Uuid128 => 16,
+        2 => Ok(Uuid::Uuid16(all(value))),
+        4 => Ok(Uuid::Uuid32(all(value))),
+        16 => Ok(Uuid::Uuid128(all(value))),
+        _ => Err(Error::InvalidValue),
     }
 }
 
@@ -196,34 +155,32 @@ pub fn equal_types(a: &[u8], b: &[u8]) -> bool
     a == b
 }
 
-fn accepted(form: Form, own: &[u8]) -> Sliced
-    requires { length own.now ≤ 16 }
-    ensures { result ≡ formed form own.now }
+fn all<const N: usize>(value: &[u8]) -> [u8; N]
+    requires { length value.now ≡ N }
+    ensures { result ≡ value.now }
 {
-    let bytes = pad(own);
-    Sliced {
-        answer: Checked::Accepted,
-        uuid: Uuid { form, bytes },
-    }
-}
-
-fn pad(s: &[u8]) -> [u8; 16]
-    requires { length s.now ≤ 16 }
-    ensures { result ≡ padded s.now }
-{
-    let mut bytes = [0u8; 16];
-    codec::write_bytes(s, &mut bytes);
+    let mut bytes = [0u8; N];
+    bytes.copy_from_slice(value);
     bytes
 }
 
-// A 32-bit value, the first four bytes, expanded on the base.
-fn on_base(value: [u8; 16]) -> [u8; 16]
-    ensures { result ≡ padded (base ++ take 4 value) }
+fn in_front(own: &[u8]) -> Raw
+    requires { length own.now ≤ 16 }
+    ensures { result ≡ raw_of own.now }
+{
+    let mut bytes = [0u8; 16];
+    bytes[..own.len()].copy_from_slice(own);
+    Raw {
+        bytes,
+        len: own.len(),
+    }
+}
+
+// A 32-bit value expanded on the base.
+fn on_base(value: [u8; 4]) -> [u8; 16]
+    ensures { result ≡ base ++ value }
 {
     let mut bytes = BASE;
-    bytes[12] = value[0];
-    bytes[13] = value[1];
-    bytes[14] = value[2];
-    bytes[15] = value[3];
+    bytes[12..].copy_from_slice(&value);
     bytes
 }
