@@ -8,7 +8,7 @@ ghost use Rattle.att_error.specs.Texts.{codes};
 
 use codec::Error;
 
-#[derive(Clone, Copy)]
+#[derive(Clone, Copy, PartialEq, Eq)]
 pub struct AttErrorCode {
     pub value: u8,
 }
@@ -59,23 +59,29 @@ impl AttErrorCode {
     pub const PROCEDURE_ALREADY_IN_PROGRESS: Self = Self { value: 0xFE };
 
     pub const OUT_OF_RANGE: Self = Self { value: 0xFF };
+}
 
-    pub fn new(value: u8) -> Self
-        ensures { result.value ≡ value }
-    {
-        Self { value }
+impl From<u8> for AttErrorCode {
+    ghost from_gives = { λ n code. code.value ≡ n };
+
+    fn from(value: u8) -> AttErrorCode {
+        AttErrorCode { value }
     }
+}
 
-    pub fn to_u8(self) -> u8
-        ensures { result ≡ self.value }
-    {
-        self.value
+impl From<AttErrorCode> for u8 {
+    ghost from_gives = { λ code n. n ≡ code.value };
+
+    fn from(code: AttErrorCode) -> u8 {
+        code.value
     }
+}
 
-    // Either error of the codec is an invalid PDU to the peer.
-    pub fn from_error(_e: Error) -> Self
-        ensures { result.value ≡ 0x04 }
-    {
+// Either error of the codec is an invalid PDU to the peer.
+impl From<Error> for AttErrorCode {
+    ghost from_gives = { λ _ code. code.value ≡ 0x04 };
+
+    fn from(_e: Error) -> AttErrorCode {
         AttErrorCode::INVALID_PDU
     }
 }

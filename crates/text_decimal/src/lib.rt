@@ -6,7 +6,7 @@ ghost use Rattle.io.specs.Counts.{IsPrefixLen};
 ghost use Rattle.codec.specs.Buffer.{over, laid, written};
 ghost use Rattle.text_decimal.specs.Decimal.{decimal_text};
 
-use codec::{Error, Written};
+use codec::Error;
 
 // The digits of a number, at the start of the lent bytes; the answer is how many there are.
 pub fn spell(n: u64, out: &mut [u8; 20]) -> usize
@@ -17,7 +17,7 @@ pub fn spell(n: u64, out: &mut [u8; 20]) -> usize
 }
 
 // `front`, the number and `back`, one behind the other. Nothing is written where one has no room.
-pub fn write_between(front: &[u8], n: u8, back: &[u8], out: &mut [u8]) -> Written
+pub fn write_between(front: &[u8], n: u8, back: &[u8], out: &mut [u8]) -> Result<usize, Error>
     ensures value { result ≡ written (front.now ++ (decimal_text n ++ back.now)) out.old }
     ensures out_after { out.new ≡ laid (front.now ++ (decimal_text n ++ back.now)) out.old }
 {
@@ -26,19 +26,19 @@ pub fn write_between(front: &[u8], n: u8, back: &[u8], out: &mut [u8]) -> Writte
     let f = front.len();
     let room = out.len();
     if room < f {
-        return Written::Refused(Error::InsufficientSpace);
+        return Err(Error::InsufficientSpace);
     }
     if room - f < d {
-        return Written::Refused(Error::InsufficientSpace);
+        return Err(Error::InsufficientSpace);
     }
     if room - f - d < back.len() {
-        return Written::Refused(Error::InsufficientSpace);
+        return Err(Error::InsufficientSpace);
     }
     put(front, out);
     put(&spelt[..d], &mut out[f..]);
     let at = f + d;
     put(back, &mut out[at..]);
-    Written::Done(at + back.len())
+    Ok(at + back.len())
 }
 
 fn put(src: &[u8], dest: &mut [u8])
