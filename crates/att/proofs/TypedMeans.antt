@@ -10,23 +10,18 @@ use lib.Dec.{leb, eqb}
 use lib.ListN.{length, take, drop, length-drop}
 use lib.Seq.{take_all}
 use borrow.Author.Tests.{eqb-true, leb-true, le-leb, lt-ltb}
+use Rattle.std.specs.Prelude.{Ok, Err}
 use Rattle.codec.specs.Cases.{pick, lookup}
 use Rattle.codec.specs.CasesLaws.{impossible, both, join}
 use Rattle.primitives.specs.Numbers.{number_at, Octets}
-use Rattle.ble_uuid.specs.Uuids.{on_air, width_of, uuid_of}
-use Rattle.ble_uuid.specs.UuidsLaws.{sliced_formed, own_sliced, on_air_own}
-use Rattle.ble_uuid.specs.declared.Form.{Form}
-use Rattle.ble_uuid.specs.declared.Form.TheVariants as form
-use Rattle.ble_uuid.specs.declared.Sliced.{Sliced}
+use Rattle.ble_uuid.specs.Uuids.{on_air, no_uuid, sliced, uuid_of}
 use Rattle.ble_uuid.specs.declared.Uuid.{Uuid}
 use Rattle.att.specs.Wire.{Tail, Ends, Rest, Handles, AUuid, Items, by_format, NoPacket, Shape, shape, rows, shape_of, total, numbers, uuid_length, tail_decodes, shape_decodes, decodes, Meaning, meaning, kept_tail, shape_means, Read, Means, NotRead, read, strict, Coded, Sent, NotSent, send, resent}
-use Rattle.att.specs.Typed.{Build, builds, build_of, refused_build, behind, uuid_in, shape_builds, refusal, row_decoded, decoded, Shown, shown, span, show_att, part_of, part_ok, tail_of, means_shown, countable, encoded_shown, encoded, encoded_again, read_of}
+use Rattle.att.specs.Typed.{Build, builds, build_of, refused_build, behind, uuid_in, shape_builds, refusal, row_decoded, Parsed, decoded, Shown, shown, shown_all, span, show_att, part_of, part_ok, tail_of, means_shown, countable, encoded_shown, encoded, encoded_again, read_of}
 use Rattle.att.proofs.RoundTrip.{strict_decodes, strict_round_trip}
 use Rattle.att.specs.Formats.{format_number, format_of}
 use Rattle.att.specs.declared.FindInformationUuidFormat.TheVariants.{Uuid16, Uuid128}
 use Rattle.att.specs.declared.Span.{Span}
-use Rattle.att.specs.declared.Parsed.{Parsed}
-use Rattle.att.specs.declared.Parsed.TheVariants.{Packet, Refused}
 
 -- the range that a typed packet shows: that of its data, or an empty one
 abbrev ranged : Tail → Span → Span
@@ -37,12 +32,22 @@ ranged AUuid d = span 0 0
 ranged (Items each least) d = d
 ranged NoPacket d = span 0 0
 
-abbrev ShownBy : ℕ → Tail → List ℕ → Span → Parsed → Type 0
-ShownBy op t ns d (Packet a) = show_att a ≡ shown op ns (ranged t d)
-ShownBy op t ns d (Refused e) = ⊥
+-- the UUID that a typed packet shows
+abbrev carried : Tail → Uuid → Uuid
+carried Ends u = no_uuid
+carried Rest u = no_uuid
+carried Handles u = no_uuid
+carried AUuid u = u
+carried (Items each least) u = no_uuid
+carried NoPacket u = no_uuid
+
+abbrev ShownBy : ℕ → Tail → List ℕ → Uuid → Span → Parsed → Type 0
+ShownBy op t ns u d (Ok a) = show_att a ≡ shown_all op ns (carried t u) (ranged t d)
+ShownBy op t ns u d (Err e) = ⊥
 
 abbrev Fine : ℕ → Shape → Build → Type 0
-Fine op s b = (p : List ℕ) (d : Span) → shape_decodes s p ≡ true → ShownBy op s.tail (numbers 0 s.fields p) d (b (numbers 0 s.fields p) d)
+Fine op s b =
+    (p : List ℕ) (u : Uuid) (d : Span) → shape_decodes s p ≡ true → ShownBy op s.tail (numbers 0 s.fields p) u d (b (numbers 0 s.fields p) u d)
 
 abbrev Agree : List (ℕ × Shape) → List (ℕ × Build) → Type 0
 Agree [] [] = Unit
@@ -70,99 +75,99 @@ unfolding rows builds
 agree = (
   refl,
   (
-    λ p d h. refl,
+    λ p u d h. refl,
     (
       refl,
       (
-        λ p d h. refl,
+        λ p u d h. refl,
         (
           refl,
           (
-            λ p d h. refl,
+            λ p u d h. refl,
             (
               refl,
               (
-                λ p d h. refl,
+                λ p u d h. refl,
                 (
                   refl,
                   (
-                    λ p d h. shows_format p d h,
+                    λ p u d h. shows_format p d h,
                     (
                       refl,
                       (
-                        λ p d h. refl,
+                        λ p u d h. refl,
                         (
                           refl,
                           (
-                            λ p d h. refl,
+                            λ p u d h. refl,
                             (
                               refl,
                               (
-                                λ p d h. refl,
+                                λ p u d h. refl,
                                 (
                                   refl,
                                   (
-                                    λ p d h. refl,
+                                    λ p u d h. refl,
                                     (
                                       refl,
                                       (
-                                        λ p d h. refl,
+                                        λ p u d h. refl,
                                         (
                                           refl,
                                           (
-                                            λ p d h. refl,
+                                            λ p u d h. refl,
                                             (
                                               refl,
                                               (
-                                                λ p d h. refl,
+                                                λ p u d h. refl,
                                                 (
                                                   refl,
                                                   (
-                                                    λ p d h. refl,
+                                                    λ p u d h. refl,
                                                     (
                                                       refl,
                                                       (
-                                                        λ p d h. refl,
+                                                        λ p u d h. refl,
                                                         (
                                                           refl,
                                                           (
-                                                            λ p d h. refl,
+                                                            λ p u d h. refl,
                                                             (
                                                               refl,
                                                               (
-                                                                λ p d h. refl,
+                                                                λ p u d h. refl,
                                                                 (
                                                                   refl,
                                                                   (
-                                                                    λ p d h. refl,
+                                                                    λ p u d h. refl,
                                                                     (
                                                                       refl,
                                                                       (
-                                                                        λ p d h. refl,
+                                                                        λ p u d h. refl,
                                                                         (
                                                                           refl,
                                                                           (
-                                                                            λ p d h. refl,
+                                                                            λ p u d h. refl,
                                                                             (
                                                                               refl,
                                                                               (
-                                                                                λ p d h. refl,
+                                                                                λ p u d h. refl,
                                                                                 (
                                                                                   refl,
                                                                                   (
-                                                                                    λ p d h. refl,
+                                                                                    λ p u d h. refl,
                                                                                     (
                                                                                       refl,
                                                                                       (
-                                                                                        λ p d h. refl,
+                                                                                        λ p u d h. refl,
                                                                                         (
                                                                                           refl,
                                                                                           (
-                                                                                            λ p d h. refl,
+                                                                                            λ p u d h. refl,
                                                                                             (
                                                                                               refl,
                                                                                               (
-                                                                                                λ p d h. refl,
+                                                                                                λ p u d h. refl,
                                                                                                 tt,
                                                                                               ),
                                                                                             ),
@@ -214,19 +219,16 @@ agree = (
 )
 
 -- an opcode that decodes has a row, and the typed packet of that row
-abbrev FineWhere : ℕ → Shape → Build → Type 0
-FineWhere op s b = (p : List ℕ) (d : Span) → shape_decodes s p ≡ true → ShownBy op s.tail (numbers 0 s.fields p) d (b (numbers 0 s.fields p) d)
-
 agree_at : (op : ℕ) (rs : List (ℕ × Shape)) (bs : List (ℕ × Build)) → Agree rs bs
-    → FineWhere op (lookup op rs (shape [] NoPacket)) (lookup op bs refused_build)
-agree_at op [] [] g = λ p d h. let z : ◌≡◌ {A = Bool} false true = h in impossible (cc)
+    → Fine op (lookup op rs (shape [] NoPacket)) (lookup op bs refused_build)
+agree_at op [] [] g = λ p u d h. let z : ◌≡◌ {A = Bool} false true = h in impossible (cc)
 agree_at op [] (b ∷ bs) g = absurd g
 agree_at op (r ∷ rs) [] g = absurd g
 agree_at op (r ∷ rs) (b ∷ bs) g = by (eqb op r.0) refl (eqb op b.0) (ap (eqb op) g.0) (agree_at op rs bs g.1.1) where
   by : (x : Bool) → eqb op r.0 ≡ x → (y : Bool) → eqb op r.0 ≡ y
-      → FineWhere op (lookup op rs (shape [] NoPacket)) (lookup op bs refused_build)
-      → FineWhere op (pick x r.1 (lookup op rs (shape [] NoPacket))) (pick y b.1 (lookup op bs refused_build))
-  by true e true f rest = λ p d h. rw (eqb-true op r.0 e) (g.1.0 p d h)
+      → Fine op (lookup op rs (shape [] NoPacket)) (lookup op bs refused_build)
+      → Fine op (pick x r.1 (lookup op rs (shape [] NoPacket))) (pick y b.1 (lookup op bs refused_build))
+  by true e true f rest = λ p u d h. rw (eqb-true op r.0 e) (g.1.0 p u d h)
   by true e false f rest = impossible (cc)
   by false e true f rest = impossible (cc)
   by false e false f rest = rest
@@ -236,48 +238,45 @@ behind_part : (k op : ℕ) (p : List ℕ) → part_of (behind k p) (op ∷ p) �
 behind_part k op p = rw (add-one k) (take_all (length p - k) (drop k p) (simp length-drop (omega arith)))
 
 -- a UUID of 2 or 16 bytes is carried in the bytes that it was read from
-air_of : (f : Form) (r : List ℕ) → (f ≡ form.Uuid32 → ⊥) → length r ≡ width_of f → on_air (uuid_of r) ≡ r
-air_of f r n e =
-    let g : (uuid_of r).form ≡ f = ap (λ (s : Sliced). s.uuid.form) (sliced_formed f r e) in
-    on_air_own (uuid_of r) (λ x. n (sym g ∙ x)) ∙ own_sliced f r e
-
-air_back : (r : List ℕ) → uuid_length (length r) ≡ true → on_air (uuid_of r) ≡ r
-air_back r h = by (eqb (length r) 2) refl h where
-  by : (x : Bool) → eqb (length r) 2 ≡ x → (x || eqb (length r) 16) ≡ true → on_air (uuid_of r) ≡ r
-  by true e k = air_of form.Uuid16 r (λ z. impossible (cc)) (eqb-true (length r) 2 e)
-  by false e k = air_of form.Uuid128 r (λ z. impossible (cc)) (eqb-true (length r) 16 k)
+air_of : (r : List ℕ) (n : ℕ) → uuid_length n ≡ true → length r ≡ n → on_air (uuid_of r) ≡ r
+unfolding sliced on_air
+air_of r n h e = by (eqb n 2) refl h where
+  by : (x : Bool) → eqb n 2 ≡ x → (x || eqb n 16) ≡ true → on_air (uuid_of r) ≡ r
+  by true f k = let l : length r ≡ 2 = omega (arith, eqb-true n 2 f) in rw l
+  by false f k = let l : length r ≡ 16 = omega (arith, eqb-true n 16 k) in rw l
 
 tail_same : (t : Tail) (k op : ℕ) (p ns : List ℕ) → tail_decodes t ns (drop k p) ≡ true
-    → tail_of t (uuid_in t (drop k p)) (part_of (ranged t (behind k p)) (op ∷ p)) ≡ kept_tail t (drop k p)
+    → tail_of t (carried t (uuid_in t (drop k p))) (part_of (ranged t (behind k p)) (op ∷ p)) ≡ kept_tail t (drop k p)
 tail_same Ends k op p ns h = refl
 tail_same Rest k op p ns h = behind_part k op p
 tail_same Handles k op p ns h = behind_part k op p
-tail_same AUuid k op p ns h = air_back (drop k p) h
+tail_same AUuid k op p ns h = air_of (drop k p) (length (drop k p)) h refl
 tail_same (Items each least) k op p ns h = behind_part k op p
 tail_same NoPacket k op p ns h = refl
 
-answer_means : (op : ℕ) (p : List ℕ) (u : Uuid) (a : Parsed) (ns : List ℕ) (d : Span) (t : Tail) → ShownBy op t ns d a → t ≡ (shape_of op).tail
-    → read_of a u (op ∷ p) ≡ Means (meaning op ns (tail_of t u (part_of (ranged t d) (op ∷ p))))
+answer_means : (op : ℕ) (p : List ℕ) (a : Parsed) (ns : List ℕ) (u : Uuid) (d : Span) (t : Tail) → ShownBy op t ns u d a → t ≡ (shape_of op).tail
+    → read_of a (op ∷ p) ≡ Means (meaning op ns (tail_of t (carried t u) (part_of (ranged t d) (op ∷ p))))
 unfolding means_shown
-answer_means op p u (Packet a) ns d t h e = rw (h, e)
-answer_means op p u (Refused x) ns d t h e = absurd h
+answer_means op p (Ok a) ns u d t h e = rw (h, e)
+answer_means op p (Err x) ns u d t h e = absurd h
 
 read_decodes : (op : ℕ) (p : List ℕ) → shape_decodes (shape_of op) p ≡ true → read (op ∷ p) ≡ Means (shape_means op (shape_of op) p)
 unfolding read decodes
 read_decodes op p d = rw d
 
-pub decoded_means : (src : List ℕ) → read_of (decoded src).answer (decoded src).uuid src ≡ read src
+pub decoded_means : (src : List ℕ) → read_of (decoded src) src ≡ read src
 unfolding decoded row_decoded read decodes build_of shape_of
 decoded_means [] = refl
 decoded_means (op ∷ p) = by (shape_decodes (shape_of op) p) refl where
   by : (x : Bool) → shape_decodes (shape_of op) p ≡ x
-      → read_of (pick x (shape_builds (shape_of op) (build_of op) p) refusal).answer (pick x (shape_builds (shape_of op) (build_of op) p) refusal).uuid (op ∷ p)
+      → read_of (pick x (shape_builds (shape_of op) (build_of op) p) refusal) (op ∷ p)
       ≡ pick x (Means (shape_means op (shape_of op) p)) NotRead
   by true e =
       let s = shape_of op in
       let k = total s.fields in
       let ns = numbers 0 s.fields p in
-      answer_means op p (uuid_in s.tail (drop k p)) (build_of op ns (behind k p)) ns (behind k p) s.tail (agree_at op rows builds agree p (behind k p) e) refl
+      let u = uuid_in s.tail (drop k p) in
+      answer_means op p (build_of op ns u (behind k p)) ns u (behind k p) s.tail (agree_at op rows builds agree p u (behind k p) e) refl
       ∙ ap (λ (t : List ℕ). Means (meaning op ns t)) (tail_same s.tail k op p ns (both (tail_decodes s.tail ns (drop k p)) _ e).0)
   by false e = refl
 
@@ -298,16 +297,15 @@ part_ok_lem t k op p h = by t where
   by (Items each least) = some
   by NoPacket = none
 
-answer_encodes : (op : ℕ) (p : List ℕ) (u : Uuid) (a : Parsed) (ns : List ℕ) (d : Span) (t : Tail) → ShownBy op t ns d a → t ≡ (shape_of op).tail
+answer_encodes : (op : ℕ) (p : List ℕ) (a : Parsed) (ns : List ℕ) (u : Uuid) (d : Span) (t : Tail) → ShownBy op t ns u d a → t ≡ (shape_of op).tail
     → part_ok (ranged t d) (op ∷ p) ≡ true
-    → encoded_again a u (op ∷ p) ≡ countable (send (meaning op ns (tail_of t u (part_of (ranged t d) (op ∷ p)))))
+    → encoded_again a (op ∷ p) ≡ countable (send (meaning op ns (tail_of t (carried t u) (part_of (ranged t d) (op ∷ p)))))
 unfolding encoded_shown means_shown
-answer_encodes op p u (Packet a) ns d t h e k = rw (h, k, e)
-answer_encodes op p u (Refused x) ns d t h e k = absurd h
+answer_encodes op p (Ok a) ns u d t h e k = rw (h, k, e)
+answer_encodes op p (Err x) ns u d t h e k = absurd h
 
 -- DEMAND 2, of the code's own definitions: a strict packet, decoded and encoded over the bytes it came in, gives the same bytes.
-pub strict_packet_same_bytes : (src : List ℕ) → Octets src → length src < 2 ^ 64 → strict src ≡ true
-    → encoded_again (decoded src).answer (decoded src).uuid src ≡ Sent src
+pub strict_packet_same_bytes : (src : List ℕ) → Octets src → length src < 2 ^ 64 → strict src ≡ true → encoded_again (decoded src) src ≡ Sent src
 unfolding decoded row_decoded decodes build_of shape_of strict
 strict_packet_same_bytes [] o l h = let z : ◌≡◌ {A = Bool} false true = h in cc
 strict_packet_same_bytes (op ∷ p) o l h =
@@ -315,14 +313,15 @@ strict_packet_same_bytes (op ∷ p) o l h =
     let s = shape_of op in
     let k = total s.fields in
     let ns = numbers 0 s.fields p in
+    let u = uuid_in s.tail (drop k p) in
     let e = both (tail_decodes s.tail ns (drop k p)) _ d in
     let g : resent (read (op ∷ p)) ≡ Sent (op ∷ p) = strict_round_trip (op ∷ p) o h in
     let r : read (op ∷ p) ≡ Means (shape_means op s p) = read_decodes op p d in
     let w : send (shape_means op s p) ≡ Sent (op ∷ p) = ap resent (sym r) ∙ g in
     let z : countable (Sent (op ∷ p)) ≡ Sent (op ∷ p) = rw (lt-ltb (length (op ∷ p)) (2 ^ 64) l) in
     rw d
-    (answer_encodes op p (uuid_in s.tail (drop k p)) (build_of op ns (behind k p)) ns (behind k p) s.tail
-    (agree_at op rows builds agree p (behind k p) d)
+    (answer_encodes op p (build_of op ns u (behind k p)) ns u (behind k p) s.tail
+    (agree_at op rows builds agree p u (behind k p) d)
     refl
     (part_ok_lem s.tail k op p (leb-true k (length p) e.1))
     ∙ ap (λ (t : List ℕ). countable (send (meaning op ns t))) (tail_same s.tail k op p ns e.0)

@@ -32,8 +32,8 @@ abbrev pub U16 : ℕ → Type 0
 U16 n = n < 65536
 
 abbrev pub HeldReq : AttReq → Type 0
-HeldReq (req.ReadByGroupType s e) = U16 s × U16 e
-HeldReq (req.ReadByType s e) = U16 s × U16 e
+HeldReq (req.ReadByGroupType s e u) = U16 s × U16 e
+HeldReq (req.ReadByType s e u) = U16 s × U16 e
 HeldReq (req.Read h) = U16 h
 HeldReq (req.Write h d) = U16 h
 HeldReq (req.ExchangeMtu m) = U16 m

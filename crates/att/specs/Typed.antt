@@ -1,11 +1,10 @@
 -- The typed packets of the code (document 01, "Packets" and "Shapes that cannot be kept"): which of them each row decodes to, and
 -- what each of them means. A data field is an index range; what the packet means has the bytes in its place.
-use Rattle.std.specs.Prelude.{ℕ, ◌+◌, ◌-◌, ◌^◌, Bool, true, false, ◌&&◌, List, [], ◌∷◌, length, take, drop, get_or, leb, ltb}
+use Rattle.std.specs.Prelude.{ℕ, ◌+◌, ◌-◌, ◌^◌, Bool, true, false, ◌&&◌, List, [], ◌∷◌, length, take, drop, get_or, leb, ltb, Result, Ok, Err}
 use Rattle.codec.specs.Buffer.{laid, written}
 use Rattle.codec.specs.Cases.{pick, lookup}
+use Rattle.codec.specs.declared.Error.{Error}
 use Rattle.codec.specs.declared.Error.TheVariants.{InvalidValue}
-use Rattle.codec.specs.declared.Written.{Written}
-use Rattle.codec.specs.declared.Written.TheVariants as wrote
 use Rattle.att_error.specs.declared.AttErrorCode.{AttErrorCode}
 use Rattle.ble_uuid.specs.Uuids.{on_air, no_uuid, uuid_of}
 use Rattle.ble_uuid.specs.declared.Uuid.{Uuid}
@@ -27,19 +26,18 @@ use Rattle.att.specs.declared.AttServer.{AttServer}
 use Rattle.att.specs.declared.AttServer.TheVariants.{Response, Unsolicited}
 use Rattle.att.specs.declared.Att.{Att}
 use Rattle.att.specs.declared.Att.TheVariants.{Client, Server}
-use Rattle.att.specs.declared.Parsed.{Parsed}
-use Rattle.att.specs.declared.Parsed.TheVariants.{Packet, Refused}
-use Rattle.att.specs.declared.Decoded.{Decoded}
-use Rattle.att.specs.declared.Length.{Length}
-use Rattle.att.specs.declared.Length.TheVariants as counted
 
 abbrev pub span : ℕ → ℕ → Span
 span at n = record { at = at; len = n }
 
--- The packet of each opcode, made of the numbers of its fixed fields and the range of what follows them. Even opcodes are
+-- What bytes decode to: a packet, or why there is none.
+abbrev pub Parsed : Type 0
+Parsed = Result Att Error
+
+-- The packet of each opcode, made of the numbers of its fixed fields, the UUID and the range of what follows them. Even opcodes are
 -- client, odd ones server.
 abbrev pub Build : Type 0
-Build = List ℕ → Span → Parsed
+Build = List ℕ → Uuid → Span → Parsed
 
 abbrev pub nth : List ℕ → ℕ → ℕ
 nth ns k = get_or ns k 0
@@ -49,41 +47,41 @@ abbrev pub code : ℕ → AttErrorCode
 code n = record { value = n }
 
 abbrev pub request : AttReq → Parsed
-request r = Packet (Client (Request r))
+request r = Ok (Client (Request r))
 
 abbrev pub response : AttRsp → Parsed
-response r = Packet (Server (Response r))
+response r = Ok (Server (Response r))
 
 unfoldable pub builds : List (ℕ × Build)
 builds =
-    (0x01, λ ns d. response (rsp.Error (nth ns 0) (nth ns 1) (code (nth ns 2))))
-    ∷ (0x02, λ ns d. request (req.ExchangeMtu (nth ns 0)))
-    ∷ (0x03, λ ns d. response (rsp.ExchangeMtu (nth ns 0)))
-    ∷ (0x04, λ ns d. request (req.FindInformation (nth ns 0) (nth ns 1)))
-    ∷ (0x05, λ ns d. response (rsp.FindInformation (format_of (nth ns 0)) d))
-    ∷ (0x06, λ ns d. request (req.FindByTypeValue (nth ns 0) (nth ns 1) (nth ns 2) d))
-    ∷ (0x07, λ ns d. response (rsp.FindByTypeValue d))
-    ∷ (0x08, λ ns d. request (req.ReadByType (nth ns 0) (nth ns 1)))
-    ∷ (0x09, λ ns d. response (rsp.ReadByType (nth ns 0) d))
-    ∷ (0x0A, λ ns d. request (req.Read (nth ns 0)))
-    ∷ (0x0B, λ ns d. response (rsp.Read d))
-    ∷ (0x0C, λ ns d. request (req.ReadBlob (nth ns 0) (nth ns 1)))
-    ∷ (0x0D, λ ns d. response (rsp.ReadBlob d))
-    ∷ (0x10, λ ns d. request (req.ReadByGroupType (nth ns 0) (nth ns 1)))
-    ∷ (0x11, λ ns d. response (rsp.ReadByGroupType (nth ns 0) d))
-    ∷ (0x12, λ ns d. request (req.Write (nth ns 0) d))
-    ∷ (0x13, λ ns d. response rsp.Write)
-    ∷ (0x16, λ ns d. request (req.PrepareWrite (nth ns 0) (nth ns 1) d))
-    ∷ (0x18, λ ns d. request (req.ExecuteWrite (nth ns 0)))
-    ∷ (0x1B, λ ns d. Packet (Server (Unsolicited (uns.Notify (nth ns 0) d))))
-    ∷ (0x1D, λ ns d. Packet (Server (Unsolicited (uns.Indicate (nth ns 0) d))))
-    ∷ (0x1E, λ ns d. Packet (Client (Confirmation cfm.ConfirmIndication)))
-    ∷ (0x20, λ ns d. request (req.ReadMultiple d))
-    ∷ (0x52, λ ns d. Packet (Client (Command (record { handle = nth ns 0; «data» = d }))))
+    (0x01, λ ns u d. response (rsp.Error (nth ns 0) (nth ns 1) (code (nth ns 2))))
+    ∷ (0x02, λ ns u d. request (req.ExchangeMtu (nth ns 0)))
+    ∷ (0x03, λ ns u d. response (rsp.ExchangeMtu (nth ns 0)))
+    ∷ (0x04, λ ns u d. request (req.FindInformation (nth ns 0) (nth ns 1)))
+    ∷ (0x05, λ ns u d. response (rsp.FindInformation (format_of (nth ns 0)) d))
+    ∷ (0x06, λ ns u d. request (req.FindByTypeValue (nth ns 0) (nth ns 1) (nth ns 2) d))
+    ∷ (0x07, λ ns u d. response (rsp.FindByTypeValue d))
+    ∷ (0x08, λ ns u d. request (req.ReadByType (nth ns 0) (nth ns 1) u))
+    ∷ (0x09, λ ns u d. response (rsp.ReadByType (nth ns 0) d))
+    ∷ (0x0A, λ ns u d. request (req.Read (nth ns 0)))
+    ∷ (0x0B, λ ns u d. response (rsp.Read d))
+    ∷ (0x0C, λ ns u d. request (req.ReadBlob (nth ns 0) (nth ns 1)))
+    ∷ (0x0D, λ ns u d. response (rsp.ReadBlob d))
+    ∷ (0x10, λ ns u d. request (req.ReadByGroupType (nth ns 0) (nth ns 1) u))
+    ∷ (0x11, λ ns u d. response (rsp.ReadByGroupType (nth ns 0) d))
+    ∷ (0x12, λ ns u d. request (req.Write (nth ns 0) d))
+    ∷ (0x13, λ ns u d. response rsp.Write)
+    ∷ (0x16, λ ns u d. request (req.PrepareWrite (nth ns 0) (nth ns 1) d))
+    ∷ (0x18, λ ns u d. request (req.ExecuteWrite (nth ns 0)))
+    ∷ (0x1B, λ ns u d. Ok (Server (Unsolicited (uns.Notify (nth ns 0) d))))
+    ∷ (0x1D, λ ns u d. Ok (Server (Unsolicited (uns.Indicate (nth ns 0) d))))
+    ∷ (0x1E, λ ns u d. Ok (Client (Confirmation cfm.ConfirmIndication)))
+    ∷ (0x20, λ ns u d. request (req.ReadMultiple d))
+    ∷ (0x52, λ ns u d. Ok (Client (Command (record { handle = nth ns 0; «data» = d }))))
     ∷ []
 
 abbrev pub refused_build : Build
-refused_build ns d = Refused InvalidValue
+refused_build ns u d = Err InvalidValue
 
 unfoldable pub build_of : ℕ → Build
 build_of op = lookup op builds refused_build
@@ -92,6 +90,7 @@ build_of op = lookup op builds refused_build
 abbrev pub behind : ℕ → List ℕ → Span
 behind k p = span (k + 1) (length p - k)
 
+-- the UUID that a packet carries behind its fixed fields; where it carries none the 16-bit 0000
 abbrev pub uuid_in : Tail → List ℕ → Uuid
 uuid_in Ends r = no_uuid
 uuid_in Rest r = no_uuid
@@ -100,38 +99,42 @@ uuid_in AUuid r = uuid_of r
 uuid_in (Items each least) r = no_uuid
 uuid_in NoPacket r = no_uuid
 
-abbrev pub made : Parsed → Uuid → Decoded
-made a u = record { answer = a; uuid = u }
+abbrev pub shape_builds : Shape → Build → List ℕ → Parsed
+shape_builds s b p = b (numbers 0 s.fields p) (uuid_in s.tail (drop (total s.fields) p)) (behind (total s.fields) p)
 
-abbrev pub shape_builds : Shape → Build → List ℕ → Decoded
-shape_builds s b p =
-    made (b (numbers 0 s.fields p) (behind (total s.fields) p)) (uuid_in s.tail (drop (total s.fields) p))
+abbrev pub refusal : Parsed
+refusal = Err InvalidValue
 
-abbrev pub refusal : Decoded
-refusal = made (Refused InvalidValue) no_uuid
-
-unfoldable pub row_decoded : ℕ → List ℕ → Decoded
+unfoldable pub row_decoded : ℕ → List ℕ → Parsed
 row_decoded op p = pick (decodes op p) (shape_builds (shape_of op) (build_of op) p) refusal
 
-unfoldable pub decoded : List ℕ → Decoded
+unfoldable pub decoded : List ℕ → Parsed
 decoded [] = refusal
 decoded (op ∷ p) = row_decoded op p
 
--- What a typed packet shows: its opcode, its numbers in the order of the row, and its range. A packet without data shows an empty one.
+-- What a typed packet shows: its opcode, its numbers in the order of the row, its UUID and its range. A packet without a UUID shows the
+-- 16-bit 0000, one without data an empty range.
 pub record Shown : Type 0 where
   pub opcode : ℕ
   pub numbers : List ℕ
+  pub uuid : Uuid
   pub part : Span
 
+abbrev pub shown_all : ℕ → List ℕ → Uuid → Span → Shown
+shown_all op ns u d = record { opcode = op; numbers = ns; uuid = u; part = d }
+
 abbrev pub shown : ℕ → List ℕ → Span → Shown
-shown op ns d = record { opcode = op; numbers = ns; part = d }
+shown op ns d = shown_all op ns no_uuid d
 
 abbrev pub fixed : ℕ → List ℕ → Shown
 fixed op ns = shown op ns (span 0 0)
 
+abbrev pub with_uuid : ℕ → List ℕ → Uuid → Shown
+with_uuid op ns u = shown_all op ns u (span 0 0)
+
 abbrev pub show_req : AttReq → Shown
-show_req (req.ReadByGroupType s e) = fixed 0x10 (s ∷ e ∷ [])
-show_req (req.ReadByType s e) = fixed 0x08 (s ∷ e ∷ [])
+show_req (req.ReadByGroupType s e u) = with_uuid 0x10 (s ∷ e ∷ []) u
+show_req (req.ReadByType s e u) = with_uuid 0x08 (s ∷ e ∷ []) u
 show_req (req.Read h) = fixed 0x0A (h ∷ [])
 show_req (req.Write h d) = shown 0x12 (h ∷ []) d
 show_req (req.ExchangeMtu m) = fixed 0x02 (m ∷ [])
@@ -180,7 +183,7 @@ part_of d src = take d.len (drop d.at src)
 abbrev pub part_ok : Span → List ℕ → Bool
 part_ok d src = leb d.at (length src) && leb d.len (length src - d.at)
 
--- What a shown packet means over the bytes that it points into, with the UUID beside it: only 08 and 10 look at that.
+-- What a shown packet means over the bytes that it points into: only 08 and 10 look at the UUID.
 abbrev pub tail_of : Tail → Uuid → List ℕ → List ℕ
 tail_of Ends u d = []
 tail_of Rest u d = d
@@ -189,11 +192,11 @@ tail_of AUuid u d = on_air u
 tail_of (Items each least) u d = d
 tail_of NoPacket u d = []
 
-unfoldable pub means_shown : Shown → Uuid → List ℕ → Meaning
-means_shown s u src = meaning s.opcode s.numbers (tail_of (shape_of s.opcode).tail u (part_of s.part src))
+unfoldable pub means_shown : Shown → List ℕ → Meaning
+means_shown s src = meaning s.opcode s.numbers (tail_of (shape_of s.opcode).tail s.uuid (part_of s.part src))
 
-abbrev pub meaning_of : Att → Uuid → List ℕ → Meaning
-meaning_of a u src = means_shown (show_att a) u src
+abbrev pub meaning_of : Att → List ℕ → Meaning
+meaning_of a src = means_shown (show_att a) src
 
 -- Encoding: ranges and values are tested (2); so is that the length is a number of the machine, which no packet that fits a memory
 -- can pass.
@@ -201,31 +204,31 @@ abbrev pub countable : Coded → Coded
 countable (Sent b) = pick (ltb (length b) (2 ^ 64)) (Sent b) NotSent
 countable NotSent = NotSent
 
-unfoldable pub encoded_shown : Shown → Uuid → List ℕ → Coded
-encoded_shown s u src = pick (part_ok s.part src) (countable (send (means_shown s u src))) NotSent
+unfoldable pub encoded_shown : Shown → List ℕ → Coded
+encoded_shown s src = pick (part_ok s.part src) (countable (send (means_shown s src))) NotSent
 
-abbrev pub encoded : Att → Uuid → List ℕ → Coded
-encoded a u src = encoded_shown (show_att a) u src
+abbrev pub encoded : Att → List ℕ → Coded
+encoded a src = encoded_shown (show_att a) src
 
 -- What encoding and the size answer, and what the lent output holds afterwards: then room is tested (1).
-abbrev pub written_of : Coded → List ℕ → Written
+abbrev pub written_of : Coded → List ℕ → Result ℕ Error
 written_of (Sent b) out = written b out
-written_of NotSent out = wrote.Refused InvalidValue
+written_of NotSent out = Err InvalidValue
 
 abbrev pub laid_of : Coded → List ℕ → List ℕ
 laid_of (Sent b) out = laid b out
 laid_of NotSent out = out
 
-abbrev pub length_of : Coded → Length
-length_of (Sent b) = counted.Bytes (length b)
-length_of NotSent = counted.Refused InvalidValue
+abbrev pub length_of : Coded → Result ℕ Error
+length_of (Sent b) = Ok (length b)
+length_of NotSent = Err InvalidValue
 
 -- What decoded bytes mean, as the wire has it.
-abbrev pub read_of : Parsed → Uuid → List ℕ → Read
-read_of (Packet a) u src = Means (meaning_of a u src)
-read_of (Refused e) u src = NotRead
+abbrev pub read_of : Parsed → List ℕ → Read
+read_of (Ok a) src = Means (meaning_of a src)
+read_of (Err e) src = NotRead
 
 -- What decoded bytes are encoded to over the bytes that they came in.
-abbrev pub encoded_again : Parsed → Uuid → List ℕ → Coded
-encoded_again (Packet a) u src = encoded a u src
-encoded_again (Refused e) u src = NotSent
+abbrev pub encoded_again : Parsed → List ℕ → Coded
+encoded_again (Ok a) src = encoded a src
+encoded_again (Err e) src = NotSent

@@ -1,7 +1,6 @@
 // att.rs: the typed packets. The book of the wire is in specs/, its theorems in proofs/.
 //
-// A data field is an index range of the received bytes, and a UUID stands beside the packet: an enum
-// holds neither a slice nor an array.
+// A data field is an index range of the received bytes.
 //
 // A port of src/att.rs of trouble-host 0.8.0, which was changed: see NOTICE.
 #![tactic(auto)]
@@ -11,7 +10,6 @@ ghost use Rattle.att.specs.Formats.{format_of, format_number};
 
 use att_error::AttErrorCode;
 use ble_uuid::Uuid;
-use codec::Error;
 
 // The opcodes, by the names of att.rs. Opcode 20 is the Read Multiple Variable Request of the Core Specification (3.4.4.11).
 pub const ATT_READ_BY_GROUP_TYPE_REQ: u8 = 0x10;
@@ -69,22 +67,24 @@ pub const ATT_HANDLE_VALUE_IND: u8 = 0x1D;
 pub const ATT_HANDLE_VALUE_CFM: u8 = 0x1E;
 
 // A part of the bytes that a packet was read from.
-#[derive(Clone, Copy)]
+#[derive(Clone, Copy, PartialEq, Eq)]
 pub struct Span {
     pub at: usize,
     pub len: usize,
 }
 
-// ATT Request PDU. The UUID of ReadByGroupType and ReadByType stands beside the packet.
+// ATT Request PDU
 #[derive(Clone, Copy)]
 pub enum AttReq {
     ReadByGroupType {
         start: u16,
         end: u16,
+        group_type: Uuid,
     },
     ReadByType {
         start: u16,
         end: u16,
+        attribute_type: Uuid,
     },
     Read {
         handle: u16,
@@ -145,7 +145,7 @@ pub enum AttClient {
 }
 
 // The format of Find Information Response: the UUIDs that its pairs hold.
-#[derive(Clone, Copy)]
+#[derive(Clone, Copy, PartialEq, Eq)]
 pub enum FindInformationUuidFormat {
     Uuid16,
     Uuid128,
@@ -228,24 +228,4 @@ pub enum AttServer {
 pub enum Att {
     Client(AttClient),
     Server(AttServer),
-}
-
-#[derive(Clone, Copy)]
-pub enum Parsed {
-    Packet(Att),
-    Refused(Error),
-}
-
-// What bytes decode to. Beside a packet without a UUID, and beside a refusal, stands the 16-bit 0000.
-#[derive(Clone, Copy)]
-pub struct Decoded {
-    pub answer: Parsed,
-    pub uuid: Uuid,
-}
-
-// The length of a packet's encoding.
-#[derive(Clone, Copy)]
-pub enum Length {
-    Bytes(usize),
-    Refused(Error),
 }

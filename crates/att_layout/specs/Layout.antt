@@ -2,6 +2,7 @@
 use Rattle.std.specs.Prelude.{ℕ, List, [], ◌∷◌, ◌++◌, length}
 use Rattle.codec.specs.Cases.{pick, same}
 use Rattle.primitives.specs.Numbers.{bytes_of}
+use Rattle.ble_uuid.specs.declared.Uuid.{Uuid}
 use Rattle.att.specs.Wire as wire
 use Rattle.att.specs.Wire.{shape_of, sent_fields}
 use Rattle.att.specs.Typed.{Shown, span, nth}
@@ -47,18 +48,18 @@ abbrev pub fixed_of : ℕ → List ℕ → List ℕ → Layout
 fixed_of op ws ns = plain op (fields_of ws ns) (length (head_of op ws ns))
 
 -- no packet is one whose items have no length
-abbrev pub follows_of : wire.Tail → List ℕ → Follows
-follows_of wire.Ends ns = Nothing
-follows_of wire.Rest ns = Data
-follows_of wire.Handles ns = Data
-follows_of wire.AUuid ns = AUuid
-follows_of (wire.Items each least) ns = Items (each ns)
-follows_of wire.NoPacket ns = Items 0
+abbrev pub follows_of : wire.Tail → List ℕ → Uuid → Follows
+follows_of wire.Ends ns u = Nothing
+follows_of wire.Rest ns u = Data
+follows_of wire.Handles ns u = Data
+follows_of wire.AUuid ns u = AUuid u
+follows_of (wire.Items each least) ns u = Items (each ns)
+follows_of wire.NoPacket ns u = Items 0
 
 abbrev pub shown_head : Shown → List ℕ
 shown_head s = head_of s.opcode (shape_of s.opcode).fields s.numbers
 
 unfoldable pub layout_of : Shown → Layout
 layout_of s =
-    followed_by (follows_of (shape_of s.opcode).tail s.numbers) s.part
+    followed_by (follows_of (shape_of s.opcode).tail s.numbers s.uuid) s.part
     (fixed_of s.opcode (shape_of s.opcode).fields s.numbers)

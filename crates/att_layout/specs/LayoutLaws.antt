@@ -26,8 +26,8 @@ Heads s = head_bytes (layout_of s).opcode (layout_of s).fields ≡ shown_head s
 
 heads_req : (r : AttReq) → Heads (show_req r)
 unfolding layout_of shape_of rows
-heads_req (req.ReadByGroupType s e) = refl
-heads_req (req.ReadByType s e) = refl
+heads_req (req.ReadByGroupType s e u) = refl
+heads_req (req.ReadByType s e u) = refl
 heads_req (req.Read h) = refl
 heads_req (req.Write h d) = refl
 heads_req (req.ExchangeMtu m) = refl

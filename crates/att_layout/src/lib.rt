@@ -19,15 +19,15 @@ use att::{
     AttClient, AttReq, AttRsp, AttServer, AttUns, Span,
 };
 use att_strict::pair_len;
+use ble_uuid::Uuid;
 
-// What follows the fixed fields: nothing, the whole range, the whole items of the range, or the UUID
-// beside the packet.
+// What follows the fixed fields: nothing, the whole range, the whole items of the range, or a UUID.
 #[derive(Clone, Copy)]
 pub enum Follows {
     Nothing,
     Data,
     Items(usize),
-    AUuid,
+    AUuid(Uuid),
 }
 
 // The fixed fields, by their widths.
@@ -86,12 +86,16 @@ fn lay_out_req(r: AttReq) -> Layout
     ensures { result ≡ layout_of (show_req r) }
 {
     match r {
-        AttReq::ReadByGroupType { start, end } => typed(pair(
-            ATT_READ_BY_GROUP_TYPE_REQ,
+        AttReq::ReadByGroupType {
             start,
             end,
-        )),
-        AttReq::ReadByType { start, end } => typed(pair(ATT_READ_BY_TYPE_REQ, start, end)),
+            group_type,
+        } => typed(pair(ATT_READ_BY_GROUP_TYPE_REQ, start, end), group_type),
+        AttReq::ReadByType {
+            start,
+            end,
+            attribute_type,
+        } => typed(pair(ATT_READ_BY_TYPE_REQ, start, end), attribute_type),
         AttReq::Read { handle } => word(ATT_READ_REQ, handle),
         AttReq::Write { handle, data } => followed(
             word(ATT_WRITE_REQ, handle),
@@ -169,18 +173,18 @@ fn lay_out_rsp(r: AttRsp) -> Layout
             request,
             handle,
             code,
-        } => error(request, handle, code.to_u8()),
+        } => error(request, handle, code.value),
         AttRsp::ReadByType { item_len, items } => {
             followed(
                 byte(ATT_READ_BY_TYPE_RSP, item_len),
-                Follows::Items(item_len as usize),
+                Follows::Items(usize::from(item_len)),
                 items,
             )
         }
         AttRsp::ReadByGroupType { item_len, items } => {
             followed(
                 byte(ATT_READ_BY_GROUP_TYPE_RSP, item_len),
-                Follows::Items(item_len as usize),
+                Follows::Items(usize::from(item_len)),
                 items,
             )
         }
@@ -261,18 +265,11 @@ fn fixed(opcode: u8, fields: Fields, len: usize) -> Layout
 fn followed(l: Layout, follows: Follows, part: Span) -> Layout
     ensures { result ≡ followed_by follows part l }
 {
-    let fields = l.fields;
-    Layout {
-        opcode: l.opcode,
-        fields,
-        len: l.len,
-        follows,
-        part,
-    }
+    Layout { follows, part, ..l }
 }
 
-fn typed(l: Layout) -> Layout
-    ensures { result ≡ followed_by AUuid (span 0 0) l }
+fn typed(l: Layout, uuid: Uuid) -> Layout
+    ensures { result ≡ followed_by (AUuid uuid) (span 0 0) l }
 {
-    followed(l, Follows::AUuid, Span { at: 0, len: 0 })
+    followed(l, Follows::AUuid(uuid), Span { at: 0, len: 0 })
 }

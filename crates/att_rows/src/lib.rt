@@ -1,5 +1,5 @@
 // att.rs, the decode half, row by row: a packet's fixed fields, each read at its place of the payload behind
-// the opcode, and its data field, which the dispatcher hands over as the bytes behind them. Places past the
+// the opcode, and its data field or UUID, which the dispatcher hands over. Places past the
 // end read as 0: the dispatcher refuses a payload that is too short for its fixed fields.
 //
 // A port of src/att.rs of trouble-host 0.8.0, which was changed: see NOTICE.
@@ -16,7 +16,8 @@ ghost use Rattle.att_rows.specs.Fields.{word, after, valued};
 
 use att::{AttCmd, AttReq, AttRsp, AttUns, FindInformationUuidFormat, Span};
 use att_error::AttErrorCode;
-use primitives::{u8_at, u16_at};
+use ble_uuid::Uuid;
+use primitives::Primitive;
 
 // The reader of a data field: its bytes as a part of the received bytes, in which they start at `at`.
 pub fn field(at: usize, data: &[u8]) -> Span
@@ -32,30 +33,30 @@ pub fn error_rsp(p: &[u8]) -> AttRsp
     ensures { result ≡ rsp.Error (number_at 1 0 p.now) (word 1 p.now) (code (number_at 1 3 p.now)) }
 {
     AttRsp::Error {
-        request: u8_at(p, 0),
-        handle: u16_at(p, 1),
-        code: AttErrorCode::new(u8_at(p, 3)),
+        request: u8::at(p, 0),
+        handle: u16::at(p, 1),
+        code: AttErrorCode::from(u8::at(p, 3)),
     }
 }
 
 pub fn exchange_mtu_req(p: &[u8]) -> AttReq
     ensures { result ≡ req.ExchangeMtu (word 0 p.now) }
 {
-    AttReq::ExchangeMtu { mtu: u16_at(p, 0) }
+    AttReq::ExchangeMtu { mtu: u16::at(p, 0) }
 }
 
 pub fn exchange_mtu_rsp(p: &[u8]) -> AttRsp
     ensures { result ≡ rsp.ExchangeMtu (word 0 p.now) }
 {
-    AttRsp::ExchangeMtu { mtu: u16_at(p, 0) }
+    AttRsp::ExchangeMtu { mtu: u16::at(p, 0) }
 }
 
 pub fn find_information_req(p: &[u8]) -> AttReq
     ensures { result ≡ req.FindInformation (word 0 p.now) (word 2 p.now) }
 {
     AttReq::FindInformation {
-        start_handle: u16_at(p, 0),
-        end_handle: u16_at(p, 2),
+        start_handle: u16::at(p, 0),
+        end_handle: u16::at(p, 2),
     }
 }
 
@@ -63,7 +64,7 @@ pub fn find_information_rsp(p: &[u8], items: &[u8]) -> AttRsp
     ensures { result ≡ rsp.FindInformation (format_of (number_at 1 0 p.now)) (after 2 items.now) }
 {
     AttRsp::FindInformation {
-        format: FindInformationUuidFormat::from_decoded(u8_at(p, 0)),
+        format: FindInformationUuidFormat::from_decoded(u8::at(p, 0)),
         items: field(2, items),
     }
 }
@@ -72,19 +73,20 @@ pub fn find_by_type_value_req(p: &[u8], value: &[u8]) -> AttReq
     ensures { result ≡ valued p.now (after 7 value.now) }
 {
     AttReq::FindByTypeValue {
-        start_handle: u16_at(p, 0),
-        end_handle: u16_at(p, 2),
-        att_type: u16_at(p, 4),
+        start_handle: u16::at(p, 0),
+        end_handle: u16::at(p, 2),
+        att_type: u16::at(p, 4),
         att_value: field(7, value),
     }
 }
 
-pub fn read_by_type_req(p: &[u8]) -> AttReq
-    ensures { result ≡ req.ReadByType (word 0 p.now) (word 2 p.now) }
+pub fn read_by_type_req(p: &[u8], attribute_type: Uuid) -> AttReq
+    ensures { result ≡ req.ReadByType (word 0 p.now) (word 2 p.now) attribute_type }
 {
     AttReq::ReadByType {
-        start: u16_at(p, 0),
-        end: u16_at(p, 2),
+        start: u16::at(p, 0),
+        end: u16::at(p, 2),
+        attribute_type,
     }
 }
 
@@ -92,7 +94,7 @@ pub fn read_by_type_rsp(p: &[u8], items: &[u8]) -> AttRsp
     ensures { result ≡ rsp.ReadByType (number_at 1 0 p.now) (after 2 items.now) }
 {
     AttRsp::ReadByType {
-        item_len: u8_at(p, 0),
+        item_len: u8::at(p, 0),
         items: field(2, items),
     }
 }
@@ -101,16 +103,17 @@ pub fn read_req(p: &[u8]) -> AttReq
     ensures { result ≡ req.Read (word 0 p.now) }
 {
     AttReq::Read {
-        handle: u16_at(p, 0),
+        handle: u16::at(p, 0),
     }
 }
 
-pub fn read_by_group_type_req(p: &[u8]) -> AttReq
-    ensures { result ≡ req.ReadByGroupType (word 0 p.now) (word 2 p.now) }
+pub fn read_by_group_type_req(p: &[u8], group_type: Uuid) -> AttReq
+    ensures { result ≡ req.ReadByGroupType (word 0 p.now) (word 2 p.now) group_type }
 {
     AttReq::ReadByGroupType {
-        start: u16_at(p, 0),
-        end: u16_at(p, 2),
+        start: u16::at(p, 0),
+        end: u16::at(p, 2),
+        group_type,
     }
 }
 
@@ -118,7 +121,7 @@ pub fn read_by_group_type_rsp(p: &[u8], items: &[u8]) -> AttRsp
     ensures { result ≡ rsp.ReadByGroupType (number_at 1 0 p.now) (after 2 items.now) }
 {
     AttRsp::ReadByGroupType {
-        item_len: u8_at(p, 0),
+        item_len: u8::at(p, 0),
         items: field(2, items),
     }
 }
@@ -127,7 +130,7 @@ pub fn write_req(p: &[u8], data: &[u8]) -> AttReq
     ensures { result ≡ req.Write (word 0 p.now) (after 3 «data».now) }
 {
     AttReq::Write {
-        handle: u16_at(p, 0),
+        handle: u16::at(p, 0),
         data: field(3, data),
     }
 }
@@ -136,8 +139,8 @@ pub fn prepare_write_req(p: &[u8], value: &[u8]) -> AttReq
     ensures { result ≡ req.PrepareWrite (word 0 p.now) (word 2 p.now) (after 5 value.now) }
 {
     AttReq::PrepareWrite {
-        handle: u16_at(p, 0),
-        offset: u16_at(p, 2),
+        handle: u16::at(p, 0),
+        offset: u16::at(p, 2),
         value: field(5, value),
     }
 }
@@ -145,14 +148,16 @@ pub fn prepare_write_req(p: &[u8], value: &[u8]) -> AttReq
 pub fn execute_write_req(p: &[u8]) -> AttReq
     ensures { result ≡ req.ExecuteWrite (number_at 1 0 p.now) }
 {
-    AttReq::ExecuteWrite { flags: u8_at(p, 0) }
+    AttReq::ExecuteWrite {
+        flags: u8::at(p, 0),
+    }
 }
 
 pub fn handle_value_ntf(p: &[u8], data: &[u8]) -> AttUns
     ensures { result ≡ uns.Notify (word 0 p.now) (after 3 «data».now) }
 {
     AttUns::Notify {
-        handle: u16_at(p, 0),
+        handle: u16::at(p, 0),
         data: field(3, data),
     }
 }
@@ -161,7 +166,7 @@ pub fn handle_value_ind(p: &[u8], data: &[u8]) -> AttUns
     ensures { result ≡ uns.Indicate (word 0 p.now) (after 3 «data».now) }
 {
     AttUns::Indicate {
-        handle: u16_at(p, 0),
+        handle: u16::at(p, 0),
         data: field(3, data),
     }
 }
@@ -170,7 +175,7 @@ pub fn write_cmd(p: &[u8], data: &[u8]) -> AttCmd
     ensures { result ≡ record { handle = word 0 p.now; «data» = after 3 «data».now } }
 {
     AttCmd {
-        handle: u16_at(p, 0),
+        handle: u16::at(p, 0),
         data: field(3, data),
     }
 }

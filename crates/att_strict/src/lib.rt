@@ -15,17 +15,17 @@ use att::{
     ATT_READ_BY_GROUP_TYPE_RSP, ATT_READ_BY_TYPE_REQ, ATT_READ_BY_TYPE_RSP, ATT_READ_MULTIPLE_REQ,
     ATT_READ_REQ, ATT_READ_RSP, ATT_WRITE_CMD, ATT_WRITE_REQ, ATT_WRITE_RSP,
 };
-use primitives::u8_at;
+use primitives::Primitive;
 
 // Whether bytes are a packet in the Core form. What does not decode is not strict.
 #[tactic(auto, using(crate::proofs::Rows::strict_nil))]
 pub fn strict(src: &[u8]) -> bool
     ensures { result ≡ wire.strict src.now }
 {
-    if src.len() == 0 {
-        return false;
+    match src {
+        [op, p @ ..] => strict_payload(*op, p),
+        [] => false,
     }
-    strict_payload(src[0], &src[1..])
 }
 
 // The length of a pair of 05 by its format; a format that is none has no pairs.
@@ -43,7 +43,7 @@ pub fn pair_len(format: u8) -> usize
 pub fn item_len(p: &[u8]) -> usize
     ensures { result ≡ number_at 1 0 p.now }
 {
-    u8_at(p, 0) as usize
+    usize::from(u8::at(p, 0))
 }
 
 // The strict form of the payload of an opcode.
@@ -52,30 +52,22 @@ fn strict_payload(op: u8, p: &[u8]) -> bool
     ensures { result ≡ shape_strict (shape_of op) p.now }
 {
     match op {
-        ATT_ERROR_RSP => ends(p, 4),
-        ATT_EXCHANGE_MTU_REQ => ends(p, 2),
-        ATT_EXCHANGE_MTU_RSP => ends(p, 2),
-        ATT_FIND_INFORMATION_REQ => ends(p, 4),
-        ATT_FIND_INFORMATION_RSP => strict_pairs(p),
-        ATT_FIND_BY_TYPE_VALUE_REQ => at_least(p, 6),
-        ATT_FIND_BY_TYPE_VALUE_RSP => whole_items(p, 0, 4, 2),
-        ATT_READ_BY_TYPE_REQ => has_uuid(p),
-        ATT_READ_BY_TYPE_RSP => strict_items(p, 2),
-        ATT_READ_REQ => ends(p, 2),
-        ATT_READ_RSP => at_least(p, 0),
-        ATT_READ_BLOB_REQ => ends(p, 4),
-        ATT_READ_BLOB_RSP => at_least(p, 0),
-        ATT_READ_BY_GROUP_TYPE_REQ => has_uuid(p),
-        ATT_READ_BY_GROUP_TYPE_RSP => strict_items(p, 4),
-        ATT_WRITE_REQ => at_least(p, 2),
-        ATT_WRITE_RSP => ends(p, 0),
-        ATT_PREPARE_WRITE_REQ => at_least(p, 4),
+        ATT_ERROR_RSP | ATT_FIND_INFORMATION_REQ | ATT_READ_BLOB_REQ => ends(p, 4),
+        ATT_EXCHANGE_MTU_REQ | ATT_EXCHANGE_MTU_RSP | ATT_READ_REQ => ends(p, 2),
         ATT_EXECUTE_WRITE_REQ => ends(p, 1),
-        ATT_HANDLE_VALUE_NTF => at_least(p, 2),
-        ATT_HANDLE_VALUE_IND => at_least(p, 2),
-        ATT_HANDLE_VALUE_CFM => ends(p, 0),
+        ATT_WRITE_RSP | ATT_HANDLE_VALUE_CFM => ends(p, 0),
+        ATT_FIND_BY_TYPE_VALUE_REQ => at_least(p, 6),
+        ATT_PREPARE_WRITE_REQ => at_least(p, 4),
+        ATT_WRITE_REQ | ATT_WRITE_CMD | ATT_HANDLE_VALUE_NTF | ATT_HANDLE_VALUE_IND => {
+            at_least(p, 2)
+        }
+        ATT_READ_RSP | ATT_READ_BLOB_RSP => at_least(p, 0),
+        ATT_READ_BY_TYPE_REQ | ATT_READ_BY_GROUP_TYPE_REQ => has_uuid(p),
         ATT_READ_MULTIPLE_REQ => handles(p),
-        ATT_WRITE_CMD => at_least(p, 2),
+        ATT_FIND_INFORMATION_RSP => strict_pairs(p),
+        ATT_FIND_BY_TYPE_VALUE_RSP => whole_items(p, 0, 4, 2),
+        ATT_READ_BY_TYPE_RSP => strict_items(p, 2),
+        ATT_READ_BY_GROUP_TYPE_RSP => strict_items(p, 4),
         _ => false,
     }
 }
@@ -95,27 +87,20 @@ fn at_least(p: &[u8], fixed: usize) -> bool
 fn has_uuid(p: &[u8]) -> bool
     ensures { result ≡ exact AUuid [] 4 p.now }
 {
-    match p.len() {
-        6 => true,
-        20 => true,
-        _ => false,
-    }
+    matches!(p.len(), 6 | 20)
 }
 
 fn handles(p: &[u8]) -> bool
     ensures { result ≡ exact Handles [] 0 p.now }
 {
     let n = p.len();
-    if n < 4 {
-        return false;
-    }
-    n % 2 == 0
+    4 <= n && n % 2 == 0
 }
 
 fn strict_pairs(p: &[u8]) -> bool
     ensures { result ≡ exact (Items by_format 2) (number_at 1 0 p.now ∷ []) 1 p.now }
 {
-    whole_items(p, 1, pair_len(u8_at(p, 0)), 2)
+    whole_items(p, 1, pair_len(u8::at(p, 0)), 2)
 }
 
 fn strict_items(p: &[u8], least: usize) -> bool
@@ -130,15 +115,9 @@ fn whole_items(p: &[u8], fixed: usize, each: usize, least: usize) -> bool
     requires { 2 ≤ least }
     ensures { result ≡ exact (Items first least) (each ∷ []) fixed p.now }
 {
-    if each < least {
-        return false;
-    }
-    if p.len() < fixed {
+    if each < least || p.len() < fixed {
         return false;
     }
     let n = p.len() - fixed;
-    if n < each {
-        return false;
-    }
-    n % each == 0
+    each <= n && n % each == 0
 }
