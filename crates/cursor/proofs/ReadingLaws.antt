@@ -1,6 +1,6 @@
 -- Laws of reading at a position: each answer where there are enough bytes and where there are not.
-use Rattle.std.specs.Prelude.{ℕ, ◌+◌, ◌-◌, ◌≤◌, ◌<◌, ◌≡◌, refl, Bool, true, false, List, [], length, take, drop, leb}
-use Rattle.std.proofs.Common.{sym, ◌∙◌, arith, drop_of_length-le, le-leb, leb-true, leb-false}
+use Rattle.std.specs.Prelude.{ℕ, ◌+◌, ◌-◌, ◌≤◌, ◌<◌, ◌≡◌, refl, Bool, true, false, List, [], length, take, drop, leb, Result, Ok, Err}
+use Rattle.std.proofs.Common.{sym, ap, ◌∙◌, arith, drop_of_length-le, le-leb, leb-true, leb-false}
 use Rattle.std.proofs.lemmas.Bool.{lt-leb}
 use Rattle.codec.specs.Cases.{pick}
 use Rattle.codec.specs.CasesLaws.{impossible}
@@ -11,34 +11,44 @@ use Rattle.codec.specs.declared.Error.TheVariants.{InvalidValue}
 use Rattle.cursor.specs.Position.{moving}
 use Rattle.cursor.proofs.PositionLaws.{gives, went, stayed}
 use Rattle.cursor.specs.Reading.{read_at, sliced, rest}
-use Rattle.cursor.specs.declared.ReadU16.{ReadU16}
-use Rattle.cursor.specs.declared.ReadU16.TheVariants as u16
-use Rattle.cursor.specs.declared.Moved.{Moved}
-use Rattle.cursor.specs.declared.Moved.TheVariants.{To, Refused}
 
 -- what a read answers, once over the width, by what `forward` answered
-module _ {A : Type 0} (width : ℕ) (value : ℕ → ℕ → A) (refused : A) (pos : ℕ) (src : List ℕ) {r : Moved} (told : r ≡ moving pos (length src) width) where
-  pub read_went : (v next : ℕ) → r ≡ To next → v ≡ number_at width pos src → value v next ≡ read_at width value refused pos src
+module _ {A : Type 0} (width : ℕ) (value : ℕ → ℕ → A) (refused : A) (pos : ℕ) (src : List ℕ) {r : Result ℕ Error} (told : r ≡ moving pos (length src) width) where
+  pub read_went : (v next : ℕ) → r ≡ Ok next → v ≡ number_at width pos src → value v next ≡ read_at width value refused pos src
   read_went v next g e = let h = went pos (length src) width next g told in rw (le-leb _ _ h.1, e, h.0)
 
-  pub read_stayed : (e : Error) → r ≡ Refused e → refused ≡ read_at width value refused pos src
+  pub read_stayed : (e : Error) → r ≡ Err e → refused ≡ read_at width value refused pos src
   read_stayed e g = rw (lt-leb _ _ (stayed pos (length src) width e g told).1)
 
--- what an answer of `read_u16` tells the one who got it
-pub got : {r : ReadU16} (pos : ℕ) (src : List ℕ) (v next : ℕ) → r ≡ u16.Value v next → r ≡ read_at 2 u16.Value (u16.Refused InvalidValue) pos src
-    → (pos + 2 ≤ length src) × (v ≡ number_at 2 pos src) × (next ≡ pos + 2)
-got pos src v next g f = by (leb (pos + 2) (length src)) refl (sym g ∙ f) where
-  by : (t : Bool) → leb (pos + 2) (length src) ≡ t
-      → u16.Value v next ≡ pick t (u16.Value (number_at 2 pos src) (pos + 2)) (u16.Refused InvalidValue)
-      → (pos + 2 ≤ length src) × (v ≡ number_at 2 pos src) × (next ≡ pos + 2)
-  by true h e = (leb-true _ _ h, cc, cc)
+-- what a read answers, and what that tells the one who got it, once over the width
+abbrev pub came : ℕ → ℕ → Result (ℕ × ℕ) Error
+came v next = Ok (v, next)
+
+abbrev number_in : Result (ℕ × ℕ) Error → ℕ
+number_in (Ok p) = p.0
+number_in (Err e) = 0
+
+abbrev place_in : Result (ℕ × ℕ) Error → ℕ
+place_in (Ok p) = p.1
+place_in (Err e) = 0
+
+abbrev pub reads : ℕ → ℕ → List ℕ → Result (ℕ × ℕ) Error
+reads width pos src = read_at width came (Err InvalidValue) pos src
+
+pub got : {r : Result (ℕ × ℕ) Error} (width pos : ℕ) (src : List ℕ) (v next : ℕ) → r ≡ came v next → r ≡ reads width pos src
+    → (pos + width ≤ length src) × (v ≡ number_at width pos src) × (next ≡ pos + width)
+got width pos src v next g f = by (leb (pos + width) (length src)) refl (sym g ∙ f) where
+  by : (t : Bool) → leb (pos + width) (length src) ≡ t
+      → came v next ≡ pick t (came (number_at width pos src) (pos + width)) (Err InvalidValue)
+      → (pos + width ≤ length src) × (v ≡ number_at width pos src) × (next ≡ pos + width)
+  by true h e = (leb-true _ _ h, ap number_in e, ap place_in e)
   by false h e = impossible (cc)
 
-pub not_got : {r : ReadU16} (pos : ℕ) (src : List ℕ) (e : Error) → r ≡ u16.Refused e → r ≡ read_at 2 u16.Value (u16.Refused InvalidValue) pos src
-    → length src < pos + 2
-not_got pos src u g f = by (leb (pos + 2) (length src)) refl (sym g ∙ f) where
-  by : (t : Bool) → leb (pos + 2) (length src) ≡ t
-      → u16.Refused u ≡ pick t (u16.Value (number_at 2 pos src) (pos + 2)) (u16.Refused InvalidValue) → length src < pos + 2
+pub not_got : {r : Result (ℕ × ℕ) Error} (width pos : ℕ) (src : List ℕ) (e : Error) → r ≡ Err e → r ≡ reads width pos src
+    → length src < pos + width
+not_got width pos src u g f = by (leb (pos + width) (length src)) refl (sym g ∙ f) where
+  by : (t : Bool) → leb (pos + width) (length src) ≡ t
+      → Err u ≡ pick t (came (number_at width pos src) (pos + width)) (Err InvalidValue) → length src < pos + width
   by true h e = impossible (cc)
   by false h e = leb-false _ _ h
 
