@@ -1,7 +1,8 @@
 -- The first with a handle, of a list of anything that has one: what holds of it, and that a list made of another has it at the same
 -- place. And the record that is found at a handle: it counts, it has the handle, and it gives what the first one with the handle
 -- gives.
-use Rattle.std.specs.Prelude.{ℕ, zero, suc, ◌+◌, ◌<◌, min, Bool, ◌≡◌, refl, List, [], ◌∷◌, Some, None, map, length, take, get_or, leb, eqb, cond}
+use Rattle.std.specs.Prelude.{ℕ, zero, suc, ◌+◌, ◌<◌, min, Bool, ◌≡◌, refl, List, [], ◌∷◌, Some, None, map, length, take, get_or, leb, eqb, ◌==◌, cond, find}
+use Rattle.std.specs.Option.{option_map_or}
 use Rattle.std.specs.List.{position_from}
 use Rattle.std.proofs.Math.Bool.{true, false}
 use Rattle.std.proofs.Common.{sym, ◌∙◌, ap, arith, not-suc-le-zero, le_of_suc-le-suc, suc-le-suc, length-take, get_or-take, take_all, eqb-true, leb-true, leb-false}
@@ -48,6 +49,17 @@ first_map f handle h gives none (x ∷ l) =
 pub item_first : {A : Type 0} (fixed live : List ℕ) (h : ℕ) (gives : Item → A) (none : A) (rs : List Record)
     → item_at h gives none (map (item fixed live) rs) ≡ record_at h (λ (r : Record). gives (item fixed live r)) none rs
 item_first fixed live h gives none rs = first_map (item fixed live) (λ (i : Item). i.handle) h gives none rs
+
+-- what is given of the first record with a handle, as std's `find` gives the record
+pub record_found : {A : Type 0} (h : ℕ) (gives : Record → A) (none : A) (rs : List Record)
+    → record_at h gives none rs ≡ option_map_or gives (find (λ (r : Record). r.handle == h) rs) none
+record_found h gives none [] = refl
+record_found {A = A} h gives none (r ∷ rs) = by (eqb r.handle h) (record_found h gives none rs)
+  where
+    by : (b : Bool) → record_at h gives none rs ≡ option_map_or gives (find (λ (r : Record). r.handle == h) rs) none
+        → pick b (gives r) (record_at h gives none rs) ≡ option_map_or gives (cond b (Some r) (find (λ (r : Record). r.handle == h) rs)) none
+    by true e = refl
+    by false e = e
 
 -- none has the handle: what is given then. And the one at a place, where none before it has the handle: it is what is found.
 missing_from : {A B : Type 0} (handle : A → ℕ) (h : ℕ) (gives : A → B) (none : B) (j : ℕ) (l : List A)

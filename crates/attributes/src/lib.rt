@@ -2,6 +2,9 @@
 // in specs/, the laws behind it in proofs/.
 #![tactic(auto)]
 
+ghost use Rattle.std.specs.Prelude.{◌≡◌};
+ghost use Rattle.attributes.specs.Records.{entries};
+
 use ble_uuid::Uuid;
 
 // Where a record's value stands: in the fixed bytes, or in a slot of the live bytes.
@@ -37,6 +40,15 @@ pub struct Table {
     pub count: usize,
     pub fixed_len: usize,
     pub live_len: usize,
+}
+
+impl Table {
+    // The records that count; no more than 64 are looked at.
+    pub fn entries(&self) -> &[Record]
+        ensures { result.now ≡ entries self.now }
+    {
+        &self.records[..self.count.min(64)]
+    }
 }
 
 // What an addition asks for: a part of the fixed bytes, or a live slot.
