@@ -38,7 +38,7 @@ pub record Passed (t : Table) (a : Addition) (fl ll : ℕ) : Type 0 where
   pub sound : sound_table t fl ll ≡ true
   pub free : t.count < 64
   pub handle : handle_ok (last_handle 0 (entries t)) a.handle ≡ true
-  pub form : type_ok a.kind.form ≡ true
+  pub kind : type_ok a.kind ≡ true
   pub value : value_ok fl a.writable a.room ≡ true
   pub space : space_ok ll (used 0 (entries t)) a.room ≡ true
 
@@ -50,7 +50,7 @@ passed t a fl ll e =
       sound = p.0;
       free = ltb-true t.count 64 p.1.0;
       handle = p.1.1.0;
-      form = p.1.1.1.0;
+      kind = p.1.1.1.0;
       value = p.1.1.1.1.0;
       space = p.1.1.1.1.1.0;
     }
@@ -72,7 +72,7 @@ fresh_good : (t : Table) (a : Addition) (fl ll : ℕ) → Passed t a fl ll
     → Good fl ll (last_handle 0 (entries t)) (used 0 (entries t)) (fresh (used 0 (entries t)) a)
 fresh_good t a fl ll p = record {
   rises = ltb-true (last_handle 0 (entries t)) a.handle p.handle;
-  form = p.form;
+  kind = p.kind;
   value = rw (fresh_room (used 0 (entries t)) a.room) p.value;
   space = rw (fresh_room (used 0 (entries t)) a.room) p.space;
   begins = fresh_start (used 0 (entries t)) a.room;

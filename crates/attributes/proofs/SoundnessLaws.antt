@@ -38,7 +38,7 @@ module _ (t : Table) (fl ll : ℕ) where
 -- the rules of a record
 pub record Good (fl ll last at : ℕ) (r : Record) : Type 0 where
   pub rises : last < r.handle
-  pub form : type_ok r.kind.form ≡ true
+  pub kind : type_ok r.kind ≡ true
   pub value : value_ok fl r.writable (room_of r.place) ≡ true
   pub space : space_ok ll at (room_of r.place) ≡ true
   pub begins : start_ok at r.place ≡ true
@@ -48,14 +48,14 @@ module _ (fl ll last at : ℕ) (r : Record) where
   pub good : record_ok fl ll last at r ≡ true → Good fl ll last at r
   good e =
       let a = both (handle_ok last r.handle) _ e in
-      let b = both (type_ok r.kind.form) _ a.1 in
+      let b = both (type_ok r.kind) _ a.1 in
       let c = both (value_ok fl r.writable (room_of r.place)) _ b.1 in
       let d = both (space_ok ll at (room_of r.place)) _ c.1 in
       let f = both (start_ok at r.place) _ d.1 in
-      record { rises = ltb-true last r.handle a.0; form = b.0; value = c.0; space = d.0; begins = f.0; within = f.1 }
+      record { rises = ltb-true last r.handle a.0; kind = b.0; value = c.0; space = d.0; begins = f.0; within = f.1 }
 
   pub good_ok : Good fl ll last at r → record_ok fl ll last at r ≡ true
-  good_ok g = join (lt-ltb last r.handle g.rises) (join g.form (join g.value (join g.space (join g.begins g.within))))
+  good_ok g = join (lt-ltb last r.handle g.rises) (join g.kind (join g.value (join g.space (join g.begins g.within))))
 
 -- a record's slot lies inside the live area, from the end of the slots before it on
 pub slot_inside : (ll at : ℕ) (p : Place) → space_ok ll at (room_of p) ≡ true → at ≤ ll → at + slot_size (slot_of p) ≤ ll

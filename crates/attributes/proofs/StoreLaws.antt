@@ -78,7 +78,7 @@ relength_ok fl ll last at r h n true t e =
     let g = good fl ll last at r e in
     good_ok fl ll last at (lengthened r n) (record {
       rises = g.rises;
-      form = g.form;
+      kind = g.kind;
       value = rw (grown_room r.place n) g.value;
       space = rw (grown_room r.place n) g.space;
       begins = grown_start at r.place n ∙ g.begins;

@@ -83,7 +83,7 @@ add_tests t a fl ll =
     (sound_table t fl ll, BadTable)
     ∷ (ltb t.count 64, TableFull)
     ∷ (handle_ok (last_handle 0 (entries t)) a.handle, BadHandle)
-    ∷ (type_ok a.kind.form, BadType)
+    ∷ (type_ok a.kind, BadType)
     ∷ (value_ok fl a.writable a.room, BadValue)
     ∷ (space_ok ll (used 0 (entries t)) a.room, NoRoom)
     ∷ []

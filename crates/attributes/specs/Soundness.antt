@@ -1,8 +1,8 @@
 -- Document 01, "Table, link and the till's own stores": when a table is sound. Each rule has a name of its own, and the rules
 -- that an addition is refused by (refusals 4 to 7) are the same ones that a record of a sound table meets.
 use Rattle.std.specs.Prelude.{ℕ, ◌+◌, Bool, true, false, ◌&&◌, not, List, [], ◌∷◌, leb, ltb, eqb}
-use Rattle.ble_uuid.specs.declared.Form.{Form}
-use Rattle.ble_uuid.specs.declared.Form.TheVariants.{Uuid16, Uuid32, Uuid128}
+use Rattle.ble_uuid.specs.declared.Uuid.{Uuid}
+use Rattle.ble_uuid.specs.declared.Uuid.TheVariants.{Uuid16, Uuid32, Uuid128}
 use Rattle.attributes.specs.Records.{entries, slot_of, slot_size}
 use Rattle.attributes.specs.declared.Place.{Place}
 use Rattle.attributes.specs.declared.Place.TheVariants as place
@@ -27,10 +27,10 @@ abbrev pub handle_ok : ℕ → ℕ → Bool
 handle_ok last h = ltb last h
 
 -- refusal 5: no type is a 32-bit UUID
-abbrev pub type_ok : Form → Bool
-type_ok Uuid16 = true
-type_ok Uuid32 = false
-type_ok Uuid128 = true
+abbrev pub type_ok : Uuid → Bool
+type_ok (Uuid16 b) = true
+type_ok (Uuid32 b) = false
+type_ok (Uuid128 b) = true
 
 -- Refusal 6: no capacity and no fixed value is over 512 bytes, a fixed value lies inside the fixed bytes, and it is not writable.
 abbrev pub size_ok : ℕ → Bool
@@ -65,7 +65,7 @@ room_of (place.Live a c n) = room.Live c
 abbrev pub record_ok : ℕ → ℕ → ℕ → ℕ → Record → Bool
 record_ok fl ll last at r =
     handle_ok last r.handle
-    && (type_ok r.kind.form
+    && (type_ok r.kind
     && (value_ok fl r.writable (room_of r.place)
     && (space_ok ll at (room_of r.place)
     && (start_ok at r.place
