@@ -1,6 +1,6 @@
 -- The typed packets of the code (document 01, "Packets" and "Shapes that cannot be kept"): which of them each row decodes to, and
 -- what each of them means. A data field is an index range; what the packet means has the bytes in its place.
-use Rattle.std.specs.Prelude.{ℕ, ◌+◌, ◌-◌, ◌^◌, Bool, true, false, ◌&&◌, List, [], ◌∷◌, length, take, drop, get_or, leb, ltb, Result, Ok, Err}
+use Rattle.std.specs.Prelude.{ℕ, ◌+◌, ◌-◌, ◌^◌, Bool, true, false, ◌&&◌, List, [], ◌∷◌, length, take, drop, get_or, leb, ltb, Result, Ok, Err, Option, Some, None}
 use Rattle.codec.specs.Buffer.{laid, written}
 use Rattle.codec.specs.Cases.{pick, lookup}
 use Rattle.codec.specs.declared.Error.{Error}
@@ -182,6 +182,9 @@ part_of d src = take d.len (drop d.at src)
 
 abbrev pub part_ok : Span → List ℕ → Bool
 part_ok d src = leb d.at (length src) && leb d.len (length src - d.at)
+
+abbrev pub part_in : Span → List ℕ → Option (List ℕ)
+part_in d src = pick (part_ok d src) (Some (part_of d src)) None
 
 -- What a shown packet means over the bytes that it points into: only 08 and 10 look at the UUID.
 abbrev pub tail_of : Tail → Uuid → List ℕ → List ℕ

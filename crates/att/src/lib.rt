@@ -5,11 +5,13 @@
 // A port of src/att.rs of trouble-host 0.8.0, which was changed: see NOTICE.
 #![tactic(auto)]
 
-ghost use Rattle.std.specs.Prelude.{◌≡◌};
-ghost use Rattle.att.specs.Formats.{format_of, format_number};
+ghost use Rattle.std.specs.Prelude.{◌≡◌, option_copied};
+ghost use Rattle.att.specs.Formats.{format_in, format_number, pair_length};
+ghost use Rattle.att.specs.Typed.{part_in};
 
 use att_error::AttErrorCode;
 use ble_uuid::Uuid;
+use codec::Error;
 
 // The opcodes, by the names of att.rs. Opcode 20 is the Read Multiple Variable Request of the Core Specification (3.4.4.11).
 pub const ATT_READ_BY_GROUP_TYPE_REQ: u8 = 0x10;
@@ -71,6 +73,15 @@ pub const ATT_HANDLE_VALUE_CFM: u8 = 0x1E;
 pub struct Span {
     pub at: usize,
     pub len: usize,
+}
+
+impl Span {
+    // The part itself, where it lies within these bytes.
+    pub fn of(self, src: &[u8]) -> Option<&[u8]>
+        ensures { option_copied result ≡ part_in self src.now }
+    {
+        src.get(self.at..)?.get(..self.len)
+    }
 }
 
 // ATT Request PDU
@@ -151,25 +162,40 @@ pub enum FindInformationUuidFormat {
     Uuid128,
 }
 
-impl FindInformationUuidFormat {
-    // The format of a byte that decoding accepts; a packet with any byte but 1 and 2 is refused, whatever is
-    // answered here (the Rust's `from` refuses it in this place).
-    pub fn from_decoded(format: u8) -> Self
-        ensures { result ≡ format_of format }
-    {
-        if format == 2 {
-            FindInformationUuidFormat::Uuid128
-        } else {
-            FindInformationUuidFormat::Uuid16
+// The format of its byte; any other byte is none.
+impl TryFrom<u8> for FindInformationUuidFormat {
+    type Error = Error;
+
+    ghost try_from_gives = { λ n format. format ≡ format_in n };
+
+    fn try_from(format: u8) -> Result<FindInformationUuidFormat, Error> {
+        match format {
+            1 => Ok(FindInformationUuidFormat::Uuid16),
+            2 => Ok(FindInformationUuidFormat::Uuid128),
+            _ => Err(Error::InvalidValue),
         }
     }
+}
 
-    pub fn to_u8(self) -> u8
-        ensures { result ≡ format_number self }
-    {
-        match self {
+impl From<FindInformationUuidFormat> for u8 {
+    ghost from_gives = { λ format n. n ≡ format_number format };
+
+    fn from(format: FindInformationUuidFormat) -> u8 {
+        match format {
             FindInformationUuidFormat::Uuid16 => 1,
             FindInformationUuidFormat::Uuid128 => 2,
+        }
+    }
+}
+
+impl FindInformationUuidFormat {
+    // The length of a pair of handle and UUID.
+    pub fn pair_len(self) -> usize
+        ensures { result ≡ pair_length self }
+    {
+        match self {
+            FindInformationUuidFormat::Uuid16 => 4,
+            FindInformationUuidFormat::Uuid128 => 18,
         }
     }
 }

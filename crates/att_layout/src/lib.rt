@@ -18,7 +18,6 @@ use att::{
     ATT_READ_REQ, ATT_READ_RSP, ATT_WRITE_CMD, ATT_WRITE_REQ, ATT_WRITE_RSP, Att, AttCfm,
     AttClient, AttReq, AttRsp, AttServer, AttUns, Span,
 };
-use att_strict::pair_len;
 use ble_uuid::Uuid;
 
 // What follows the fixed fields: nothing, the whole range, the whole items of the range, or a UUID.
@@ -162,10 +161,9 @@ fn lay_out_rsp(r: AttRsp) -> Layout
             items,
         ),
         AttRsp::FindInformation { format, items } => {
-            let format = format.to_u8();
             followed(
-                byte(ATT_FIND_INFORMATION_RSP, format),
-                Follows::Items(pair_len(format)),
+                byte(ATT_FIND_INFORMATION_RSP, u8::from(format)),
+                Follows::Items(format.pair_len()),
                 items,
             )
         }

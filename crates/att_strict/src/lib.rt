@@ -14,6 +14,7 @@ use att::{
     ATT_PREPARE_WRITE_REQ, ATT_READ_BLOB_REQ, ATT_READ_BLOB_RSP, ATT_READ_BY_GROUP_TYPE_REQ,
     ATT_READ_BY_GROUP_TYPE_RSP, ATT_READ_BY_TYPE_REQ, ATT_READ_BY_TYPE_RSP, ATT_READ_MULTIPLE_REQ,
     ATT_READ_REQ, ATT_READ_RSP, ATT_WRITE_CMD, ATT_WRITE_REQ, ATT_WRITE_RSP,
+    FindInformationUuidFormat,
 };
 use primitives::Primitive;
 
@@ -25,17 +26,6 @@ pub fn strict(src: &[u8]) -> bool
     match src {
         [op, p @ ..] => strict_payload(*op, p),
         [] => false,
-    }
-}
-
-// The length of a pair of 05 by its format; a format that is none has no pairs.
-pub fn pair_len(format: u8) -> usize
-    ensures { result ≡ by_format (format ∷ []) }
-{
-    match format {
-        1 => 4,
-        2 => 18,
-        _ => 0,
     }
 }
 
@@ -100,7 +90,10 @@ fn handles(p: &[u8]) -> bool
 fn strict_pairs(p: &[u8]) -> bool
     ensures { result ≡ exact (Items by_format 2) (number_at 1 0 p.now ∷ []) 1 p.now }
 {
-    whole_items(p, 1, pair_len(u8::at(p, 0)), 2)
+    match FindInformationUuidFormat::try_from(u8::at(p, 0)) {
+        Ok(format) => whole_items(p, 1, format.pair_len(), 2),
+        Err(_) => false,
+    }
 }
 
 fn strict_items(p: &[u8], least: usize) -> bool
