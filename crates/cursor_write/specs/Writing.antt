@@ -1,13 +1,13 @@
 -- Document 01, "Cursors": writing at a position. What the buffer then holds is `laid_at` of the codec's Buffer: the bytes are
 -- written whole or not at all.
-use Rattle.std.specs.Prelude.{ℕ, List, length, take, drop, leb}
+use Rattle.std.specs.Prelude.{ℕ, List, length, take, drop, leb, Result}
 use Rattle.codec.specs.Cases.{pick}
 use Rattle.codec.specs.Buffer.{over}
 use Rattle.cursor.specs.Position.{moving, parted}
-use Rattle.cursor.specs.declared.Moved.{Moved}
+use Rattle.codec.specs.declared.Error.{Error}
 
 -- `append`, and `write` of a number's bytes
-abbrev pub writing : ℕ → List ℕ → List ℕ → Moved
+abbrev pub writing : ℕ → List ℕ → List ℕ → Result ℕ Error
 writing pos out bytes = moving pos (length out) (length bytes)
 
 -- `truncate`: the minimum

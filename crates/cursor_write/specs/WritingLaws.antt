@@ -1,5 +1,5 @@
 -- Laws of writing at a position. Each has the shape of what a proof over the writing cursor is asked for.
-use Rattle.std.specs.Prelude.{ℕ, ◌+◌, ◌-◌, ◌≤◌, ◌<◌, ◌≡◌, refl, List, ◌++◌, length, take, drop}
+use Rattle.std.specs.Prelude.{ℕ, ◌+◌, ◌-◌, ◌≤◌, ◌<◌, ◌≡◌, refl, List, ◌++◌, length, take, drop, Result, Ok, Err}
 use Rattle.std.proofs.Common.{ap, ◌∙◌, arith, length-drop, take-append-drop, take_at, drop_at, length-take-le, le-leb}
 use Rattle.std.proofs.lemmas.Bool.{lt-leb}
 use Rattle.codec.specs.Buffer.{over, laid, over_at, laid_at}
@@ -12,8 +12,6 @@ use Rattle.cursor.proofs.PositionLaws.{went, stayed}
 use Rattle.cursor.specs.Reading.{rest}
 use Rattle.cursor.proofs.ReadingLaws.{rest_drop}
 use Rattle.cursor_write.specs.Writing.{writing, filled, split_first, split_second}
-use Rattle.cursor.specs.declared.Moved.{Moved}
-use Rattle.cursor.specs.declared.Moved.TheVariants.{To, Refused}
 
 -- a part from the buffer's start
 pub front_whole : (pos n k : ℕ) (out : List ℕ) → pos + n ≤ length out → take (k - 0) out ≡ parted pos (length out) n (take k out)
@@ -24,17 +22,17 @@ laid_over bytes out h = rw (le-leb _ _ h)
 
 -- What a write answers and leaves, once over its bytes, by what `forward` answered: the part from the position on was lent, and came
 -- back with the bytes laid over it; or nothing was written.
-module _ (pos : ℕ) (bytes out : List ℕ) {r : Moved} (told : r ≡ moving pos (length out) (length bytes)) where
-  pub write_went : (next : ℕ) (w : List ℕ) → r ≡ To next → w ≡ laid bytes (take (length out - pos) (drop pos out))
-      → (To next ≡ writing pos out bytes) × (take pos out ++ (w ++ drop (length out - pos) (drop pos out)) ≡ laid_at pos bytes out)
+module _ (pos : ℕ) (bytes out : List ℕ) {r : Result ℕ Error} (told : r ≡ moving pos (length out) (length bytes)) where
+  pub write_went : (next : ℕ) (w : List ℕ) → r ≡ Ok next → w ≡ laid bytes (take (length out - pos) (drop pos out))
+      → (Ok next ≡ writing pos out bytes) × (take pos out ++ (w ++ drop (length out - pos) (drop pos out)) ≡ laid_at pos bytes out)
   write_went next w g e =
       let h = went pos (length out) (length bytes) next g told in
       let k : length bytes ≤ length (take (length out - pos) (drop pos out)) = rw (to_the_end pos out, length-drop) (omega (arith, h.1)) in
       let b = lent_back bytes out w pos (e ∙ laid_over bytes _ k) in
-      rw (le-leb _ _ h.1) (ap To h.0, b)
+      rw (le-leb _ _ h.1) (ap Ok h.0, b)
 
-  pub write_stayed : (e : Error) → r ≡ Refused e → (Refused e ≡ writing pos out bytes) × (out ≡ laid_at pos bytes out)
-  write_stayed e g = let h = stayed pos (length out) (length bytes) e g told in rw (lt-leb _ _ h.1) (ap Refused h.0, refl)
+  pub write_stayed : (e : Error) → r ≡ Err e → (Err e ≡ writing pos out bytes) × (out ≡ laid_at pos bytes out)
+  write_stayed e g = let h = stayed pos (length out) (length bytes) e g told in rw (lt-leb _ _ h.1) (ap Err h.0, refl)
 
 -- the rest was lent whole, and came back with the bytes laid over it
 pub fill_whole : (pos : ℕ) (bytes out lent w : List ℕ) → pos + length bytes ≤ length out → lent ≡ rest pos out → w ≡ laid bytes lent

@@ -11,17 +11,18 @@ ghost use Rattle.cursor.specs.Position.{moving};
 ghost use Rattle.cursor.specs.Reading.{rest};
 ghost use Rattle.cursor_write.specs.Writing.{truncated, split_first, split_second, writing, filled, finished};
 
-use cursor::Moved;
+use codec::Error;
+use primitives::Primitive;
 
 // Moves the position back to npos; it never moves it on.
 pub fn truncate(pos: usize, npos: usize) -> usize
     ensures { result ≡ truncated pos npos }
 {
-    if pos <= npos { pos } else { npos }
+    pos.min(npos)
 }
 
 // Moves the position over bytes that were written through write_buf; the bytes are only looked at.
-pub fn commit(pos: usize, data: &[u8], n: usize) -> Moved
+pub fn commit(pos: usize, data: &[u8], n: usize) -> Result<usize, Error>
     ensures { result ≡ moving pos (length «data».now) n }
 {
     cursor::forward(pos, data.len(), n)
@@ -31,8 +32,8 @@ pub fn split_first(pos: usize, data: &mut [u8], n: usize) -> &mut [u8]
     ensures { result.now ≡ split_first pos «data».old n }
 {
     match cursor::forward(pos, data.len(), n) {
-        Moved::To(_) => &mut data[0..n],
-        Moved::Refused(_) => &mut data[0..0],
+        Ok(_) => &mut data[0..n],
+        Err(_) => &mut data[0..0],
     }
 }
 
@@ -40,87 +41,52 @@ pub fn split_second(pos: usize, data: &mut [u8], n: usize) -> &mut [u8]
     ensures { result.now ≡ split_second pos «data».old n }
 {
     match cursor::forward(pos, data.len(), n) {
-        Moved::To(_) => &mut data[n..],
-        Moved::Refused(_) => &mut data[0..0],
+        Ok(_) => &mut data[n..],
+        Err(_) => &mut data[0..0],
     }
 }
 
-pub fn write_u8(pos: usize, data: &mut [u8], v: u8) -> Moved
-    ensures value { result ≡ writing pos «data».old (bytes_of 1 v) }
-    ensures data_after { «data».new ≡ laid_at pos (bytes_of 1 v) «data».old }
+// The bytes of a number, written whole or not at all.
+#[tactic(auto, using(primitives::specs::NumbersLaws::length_bytes))]
+pub fn write<T: Primitive>(pos: usize, data: &mut [u8], v: T) -> Result<usize, Error>
+    ensures value { result ≡ writing pos «data».old (bytes_of T.SIZE (T.number v)) }
+    ensures data_after { «data».new ≡ laid_at pos (bytes_of T.SIZE (T.number v)) «data».old }
 {
-    match cursor::forward(pos, data.len(), 1) {
-        Moved::To(next) => {
-            primitives::write_u8(v, &mut data[pos..]);
-            Moved::To(next)
-        }
-        Moved::Refused(e) => Moved::Refused(e),
-    }
+    let next = cursor::forward(pos, data.len(), T::SIZE)?;
+    v.encode(&mut data[pos..])?;
+    Ok(next)
 }
 
-pub fn write_u16(pos: usize, data: &mut [u8], v: u16) -> Moved
-    ensures value { result ≡ writing pos «data».old (bytes_of 2 v) }
-    ensures data_after { «data».new ≡ laid_at pos (bytes_of 2 v) «data».old }
-{
-    match cursor::forward(pos, data.len(), 2) {
-        Moved::To(next) => {
-            primitives::write_u16(v, &mut data[pos..]);
-            Moved::To(next)
-        }
-        Moved::Refused(e) => Moved::Refused(e),
-    }
-}
-
-pub fn write_u32(pos: usize, data: &mut [u8], v: u32) -> Moved
-    ensures value { result ≡ writing pos «data».old (bytes_of 4 v) }
-    ensures data_after { «data».new ≡ laid_at pos (bytes_of 4 v) «data».old }
-{
-    match cursor::forward(pos, data.len(), 4) {
-        Moved::To(next) => {
-            primitives::write_u32(v, &mut data[pos..]);
-            Moved::To(next)
-        }
-        Moved::Refused(e) => Moved::Refused(e),
-    }
-}
-
-pub fn append(pos: usize, data: &mut [u8], src: &[u8]) -> Moved
+pub fn append(pos: usize, data: &mut [u8], src: &[u8]) -> Result<usize, Error>
     ensures value { result ≡ writing pos «data».old src.now }
     ensures data_after { «data».new ≡ laid_at pos src.now «data».old }
 {
-    match cursor::forward(pos, data.len(), src.len()) {
-        Moved::To(next) => {
-            codec::write_bytes(src, &mut data[pos..]);
-            Moved::To(next)
-        }
-        Moved::Refused(e) => Moved::Refused(e),
-    }
+    let next = cursor::forward(pos, data.len(), src.len())?;
+    codec::write_bytes(src, &mut data[pos..])?;
+    Ok(next)
 }
 
 // The rest of the writable bytes from the position on is lent out.
 pub fn write_buf(pos: usize, data: &mut [u8]) -> &mut [u8]
     ensures { result.now ≡ rest pos «data».old }
 {
-    let n = data.len();
-    if pos <= n {
-        &mut data[pos..]
-    } else {
-        &mut data[n..]
-    }
+    let n = pos.min(data.len());
+    &mut data[n..]
 }
 
 // The encoder of the next field fills what write_buf lends, and the filled part is handed back.
-// Whether it was filled is what commit answers for two bytes.
-pub fn fill_u16(pos: usize, data: &mut [u8], v: u16) -> &mut [u8]
-    ensures { result.now ≡ filled pos «data».old (bytes_of 2 v) }
+// Whether it was filled is what commit answers for its bytes.
+#[tactic(auto, using(primitives::specs::NumbersLaws::length_bytes))]
+pub fn fill<T: Primitive>(pos: usize, data: &mut [u8], v: T) -> &mut [u8]
+    ensures { result.now ≡ filled pos «data».old (bytes_of T.SIZE (T.number v)) }
 {
-    match cursor::forward(pos, data.len(), 2) {
-        Moved::To(_) => {
+    match cursor::forward(pos, data.len(), T::SIZE) {
+        Ok(_) => {
             let w = write_buf(pos, data);
-            primitives::write_u16(v, &mut w[..]);
+            let _ = v.encode(&mut w[..]);
             w
         }
-        Moved::Refused(_) => &mut data[0..0],
+        Err(_) => &mut data[0..0],
     }
 }
 
@@ -128,8 +94,8 @@ pub fn finish(pos: usize, data: &mut [u8]) -> &mut [u8]
     ensures { result.now ≡ finished pos «data».old }
 {
     if pos <= data.len() {
-        &mut data[0..pos]
+        &mut data[..pos]
     } else {
-        &mut data[0..0]
+        &mut data[..0]
     }
 }
