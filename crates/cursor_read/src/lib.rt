@@ -1,16 +1,17 @@
 // cursor.rs's ReadCursor: the received bytes and the position in them, kept together. Each method takes the
-// struct apart and calls the function of the crate cursor that has its name. A read answers the value and
-// the next position, with which `moved` makes the next cursor; on a refusal the caller's own cursor stands.
+// struct apart and calls the function of the crate cursor that has its name. A read moves the cursor behind
+// what it read; on a refusal the cursor stands where it was.
 //
 // A port of src/cursor.rs of trouble-host 0.8.0, which was changed: see NOTICE.
 #![tactic(auto)]
 
-ghost use Rattle.std.specs.Prelude.{◌≡◌, length};
+ghost use Rattle.std.specs.Prelude.{◌≡◌, Ok, Err, length};
 ghost use Rattle.codec.specs.declared.Error.TheVariants.{InvalidValue};
 ghost use Rattle.cursor.specs.Position.{left, moving};
 ghost use Rattle.cursor.specs.Reading.{read_at, rest, sliced};
 
-use cursor::{Moved, ReadU8, ReadU16, ReadU32};
+use codec::Error;
+use primitives::Primitive;
 
 #[derive(Clone, Copy)]
 pub struct ReadCursor<'d> {
@@ -34,31 +35,20 @@ impl<'d> ReadCursor<'d> {
         }
     }
 
-    pub fn reset(self) -> Self
-        ensures { (result.pos ≡ 0) × (result.«data» ≡ self.entry.«data») }
+    pub fn reset(&mut self)
+        ensures { (self.new.pos ≡ 0) × (self.new.«data» ≡ self.old.«data») }
     {
-        ReadCursor {
-            pos: 0,
-            data: self.data,
-        }
+        self.pos = 0;
     }
 
-    pub fn read_u8(self) -> ReadU8
-        ensures { result ≡ read_at 1 ReadU8.Value (ReadU8.Refused InvalidValue) self.entry.pos self.entry.«data».now }
+    pub fn read<T: Primitive>(&mut self) -> Result<T, Error>
+        ensures value { result ≡ read_at T.SIZE (λ v next. Ok (T.of v)) (Err InvalidValue) self.old.pos self.old.«data».now }
+        ensures pos_after { self.new.pos ≡ read_at T.SIZE (λ v next. next) self.old.pos self.old.pos self.old.«data».now }
+        ensures data_after { self.new.«data» ≡ self.old.«data» }
     {
-        cursor::read_u8(self.pos, self.data)
-    }
-
-    pub fn read_u16(self) -> ReadU16
-        ensures { result ≡ read_at 2 ReadU16.Value (ReadU16.Refused InvalidValue) self.entry.pos self.entry.«data».now }
-    {
-        cursor::read_u16(self.pos, self.data)
-    }
-
-    pub fn read_u32(self) -> ReadU32
-        ensures { result ≡ read_at 4 ReadU32.Value (ReadU32.Refused InvalidValue) self.entry.pos self.entry.«data».now }
-    {
-        cursor::read_u32(self.pos, self.data)
+        let (value, next) = cursor::read::<T>(self.pos, self.data)?;
+        self.pos = next;
+        Ok(value)
     }
 
     pub fn slice(self, n: usize) -> &'d [u8]
@@ -67,7 +57,7 @@ impl<'d> ReadCursor<'d> {
         cursor::slice(self.pos, self.data, n)
     }
 
-    pub fn slice_answer(self, n: usize) -> Moved
+    pub fn slice_answer(self, n: usize) -> Result<usize, Error>
         ensures { result ≡ moving self.entry.pos (length self.entry.«data».now) n }
     {
         cursor::slice_answer(self.pos, self.data, n)
@@ -98,9 +88,12 @@ impl<'d> ReadCursor<'d> {
     }
 }
 
-// A u16 field of a packet, read through a cursor: whoever calls this has a plain slice and a number.
-pub fn field(data: &[u8], at: usize) -> ReadU16
-    ensures { result ≡ read_at 2 ReadU16.Value (ReadU16.Refused InvalidValue) at «data».now }
+// A u16 field of a packet and the place behind it, read through a cursor: whoever calls this has a plain
+// slice and a number.
+pub fn field(data: &[u8], at: usize) -> Result<(u16, usize), Error>
+    ensures { result ≡ read_at 2 (λ v next. Ok (v, next)) (Err InvalidValue) at «data».now }
 {
-    ReadCursor::new(data).moved(at).read_u16()
+    let mut cursor = ReadCursor::new(data).moved(at);
+    let value = cursor.read::<u16>()?;
+    Ok((value, cursor.pos))
 }
