@@ -6,11 +6,16 @@ use Rattle.answers.specs.Serve.{State, views, Heard, Bytes, Silent, Refused, Tur
 use Rattle.answers.specs.View.{View}
 use Rattle.answers.specs.declared.Answer.{Answer}
 use Rattle.answers.specs.declared.Answer.TheVariants as answer
+use Rattle.answers.specs.declared.Lent.{Lent}
 use Rattle.answers.specs.declared.Link.{Link}
 use Rattle.answers.specs.declared.Served as code
 
 abbrev pub state_of : Table → Link → List ℕ → List ℕ → State
 state_of t l fixed live = record { table = t; link = l; fixed = fixed; live = live }
+
+-- the till that is lent
+abbrev pub lent_state : Lent → State
+lent_state x = state_of x.table.now x.link x.fixed.now x.live.now
 
 -- what the link sees of the table, and a packet served, of what the code has in hand
 abbrev pub views_for : Table → Link → List ℕ → List ℕ → List View

@@ -13,6 +13,15 @@ pub struct Link {
     pub encrypted: bool,
 }
 
+// What a packet is answered from, lent together: the table, the link, and the fixed and the live bytes.
+#[derive(Clone, Copy)]
+pub struct Lent<'a> {
+    pub table: &'a Table,
+    pub link: Link,
+    pub fixed: &'a [u8],
+    pub live: &'a [u8],
+}
+
 #[derive(Clone, Copy)]
 pub enum Answer {
     // An answer of this many bytes stands at the start of the output.

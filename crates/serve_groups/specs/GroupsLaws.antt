@@ -1,8 +1,7 @@
 -- Outlines are those of any link's views, and a group's end is found in one walk over the records.
-use Rattle.std.specs.Prelude.{ℕ, suc, ◌+◌, ◌≤◌, ◌<◌, Bool, true, false, ◌≡◌, refl, List, [], ◌∷◌, map, take, drop, get_or, ltb}
-use Rattle.std.proofs.Common.{ap, ◌∙◌, arith, add-one, drop_of_length-le, length-take-le, drop-cons, lt-ltb, le-ltb}
+use Rattle.std.specs.Prelude.{ℕ, suc, ◌+◌, ◌≤◌, ◌<◌, Bool, true, false, ◌≡◌, refl, List, [], ◌∷◌, map, drop, get_or, ltb}
+use Rattle.std.proofs.Common.{ap, ◌∙◌, add-one, drop_of_length-le, drop-cons, lt-ltb, le-ltb}
 use Rattle.std.proofs.Math.ListN.{length}
-use Rattle.std.proofs.Math.Seq.{get_or-take}
 use Rattle.codec.specs.Cases.{pick}
 use Rattle.ble_uuid.specs.Uuids.{own, equal_types}
 use Rattle.attributes.specs.Ledger.{item}
@@ -37,30 +36,26 @@ pub end_is : (h : ℕ) (rs : List Record) → group_end (map outline rs) h ≡ e
 unfolding group_end
 end_is h rs = last_of_lem h h rs
 
--- The walk. The array is `l`, of which `n` records are looked at.
-module _ (h last i n : ℕ) (l : List Record) (d : Record) (p : i < n) (q : n ≤ length l) where
-  step : end_from h last (drop i (take n l))
-      ≡ pick (ltb h (get_or l i d).handle) (pick (groups (own (get_or l i d).kind)) last (end_from h (get_or l i d).handle (drop (suc i) (take n l)))) (end_from h last (drop (suc i) (take n l)))
+-- The walk, a record at a time.
+module _ (h last i : ℕ) (l : List Record) (d : Record) (p : i < length l) where
+  step : end_from h last (drop i l)
+      ≡ pick (ltb h (get_or l i d).handle) (pick (groups (own (get_or l i d).kind)) last (end_from h (get_or l i d).handle (drop (suc i) l))) (end_from h last (drop (suc i) l))
   unfolding end_from
-  step =
-      let k : i < length (take n l) = rw (length-take-le n l) (omega arith) in
-      rw (drop-cons (take n l) i d k, get_or-take n l i d p)
+  step = rw (drop-cons l i d p)
 
-  pub end_here : h < (get_or l i d).handle → groups (own (get_or l i d).kind) ≡ true → end_from h last (drop i (take n l)) ≡ last
+  pub end_here : h < (get_or l i d).handle → groups (own (get_or l i d).kind) ≡ true → end_from h last (drop i l) ≡ last
   end_here a b = step ∙ rw (lt-ltb _ _ a, b)
 
   pub end_moves : h < (get_or l i d).handle → groups (own (get_or l i d).kind) ≡ false
-      → end_from h last (drop i (take n l)) ≡ end_from h (get_or l i d).handle (drop (i + 1) (take n l))
+      → end_from h last (drop i l) ≡ end_from h (get_or l i d).handle (drop (i + 1) l)
   end_moves a b = step ∙ rw (lt-ltb _ _ a, b, add-one i)
 
-  pub end_passes : (get_or l i d).handle ≤ h → end_from h last (drop i (take n l)) ≡ end_from h last (drop (i + 1) (take n l))
+  pub end_passes : (get_or l i d).handle ≤ h → end_from h last (drop i l) ≡ end_from h last (drop (i + 1) l)
   end_passes a = step ∙ rw (le-ltb _ _ a, add-one i)
 
-pub end_over : (h last i n : ℕ) (l : List Record) → n ≤ i → n ≤ length l → end_from h last (drop i (take n l)) ≡ last
+pub end_over : (h last i : ℕ) (l : List Record) → length l ≤ i → end_from h last (drop i l) ≡ last
 unfolding end_from
-end_over h last i n l p q =
-    let k : length (take n l) ≤ i = rw (length-take-le n l) p in
-    rw (drop_of_length-le (take n l) k)
+end_over h last i l p = rw (drop_of_length-le l p)
 
 -- the two types that open a group, as bytes
 pub groups_first : (kind : List ℕ) → equal_types kind (0x00 ∷ 0x28 ∷ []) ≡ true → true ≡ groups kind

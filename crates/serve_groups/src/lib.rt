@@ -1,7 +1,7 @@
 // Document 01, "How a packet is served": the types that open a group, and where a group ends.
 #![tactic(auto)]
 
-ghost use Rattle.std.specs.Prelude.{◌≡◌, map, ◌≤◌, take};
+ghost use Rattle.std.specs.Prelude.{◌≡◌, map};
 ghost use Rattle.ble_uuid.specs.Uuids.{own};
 ghost use Rattle.answers.specs.Replies.{groups, group_end};
 ghost use Rattle.serve_groups.specs.Groups.{outline, outlines_of};
@@ -13,18 +13,15 @@ use attributes::{Record, Table};
 pub fn is_group(kind: &[u8]) -> bool
     ensures { result ≡ groups kind.now }
 {
-    if ble_uuid::equal_types(kind, &[0x00, 0x28]) {
-        return true;
-    }
-    ble_uuid::equal_types(kind, &[0x01, 0x28])
+    ble_uuid::equal_types(kind, &[0x00, 0x28]) || ble_uuid::equal_types(kind, &[0x01, 0x28])
 }
 
 // The handle of the last record before the next one that opens a group, or of the table's last record.
-pub fn group_end(t: Table, handle: u16) -> u16
-    ensures { result ≡ group_end (outlines_of t) handle }
+pub fn group_end(table: &Table, handle: u16) -> u16
+    ensures { result ≡ group_end (outlines_of table.now) handle }
 {
-    let n = table_records::counted(t);
-    end_among(t, n, handle)
+    let records = table.records.get(..table.count).unwrap_or(&table.records);
+    end_among(records, handle)
 }
 
 fn opens_group(r: Record) -> bool
@@ -37,21 +34,17 @@ fn opens_group(r: Record) -> bool
     is_group(&all[0..n])
 }
 
-fn end_among(t: Table, n: usize, handle: u16) -> u16
-    requires { n ≤ 64 }
-    ensures { result ≡ group_end (map outline (take n t.records)) handle }
+fn end_among(records: &[Record], handle: u16) -> u16
+    ensures { result ≡ group_end (map outline records.now) handle }
 {
     let mut last = handle;
-    let mut i = 0usize;
-    while i < n {
-        let r = t.records[i];
+    for r in records {
         if handle < r.handle {
-            if opens_group(r) {
+            if opens_group(*r) {
                 return last;
             }
             last = r.handle;
         }
-        i += 1;
     }
     last
 }

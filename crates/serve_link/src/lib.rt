@@ -23,10 +23,7 @@ pub fn first_link(encrypted: bool) -> Link
 pub fn legal_mtu(mtu: u16) -> bool
     ensures { result ≡ mtu_ok mtu }
 {
-    if mtu < 23 {
-        return false;
-    }
-    mtu <= 247
+    23 <= mtu && mtu <= 247
 }
 
 // Whether a link is sound: its MTU is legal.

@@ -1,5 +1,5 @@
 // Requests about one attribute: what a link may do at a handle, decided from marks and link alone, before
-// any value or length is looked at.
+// any value or length is looked at: so the lent bytes are not passed here.
 #![tactic(auto)]
 
 ghost use Rattle.std.specs.Prelude.{◌≡◌};
@@ -9,84 +9,62 @@ ghost use Rattle.serve_permit.specs.Permit.{read_at, write_at, writable_by, stor
 use answers::Link;
 use att_error::AttErrorCode;
 use attributes::{Place, Record, Sought, Table};
-use serve_record::Permission;
-
-// Whether a value may be written, and how many bytes of it there may be, or the code that it is refused with.
-#[derive(Clone, Copy)]
-pub enum Writable {
-    UpTo(usize),
-    Denied(AttErrorCode),
-}
 
 // Reading the attribute at a handle: 01, 02 or 0F where it is denied.
-pub fn may_read(t: Table, l: Link, handle: u16) -> Permission
-    ensures { result ≡ read_at l.encrypted handle (entries t) }
+pub fn may_read(table: Table, link: Link, handle: u16) -> Result<(), AttErrorCode>
+    ensures { result ≡ read_at link.encrypted handle (entries table) }
 {
-    match table_records::find(t, handle) {
-        Sought::Missing => Permission::Denied(AttErrorCode::INVALID_HANDLE),
-        Sought::At(i) => {
-            let r = t.records[i];
-            serve_record::may_read(r, l.encrypted)
-        }
+    match table_records::find(table, handle) {
+        Sought::Missing => Err(AttErrorCode::INVALID_HANDLE),
+        Sought::At(i) => serve_record::may_read(table.records[i], link.encrypted),
     }
 }
 
-// Writing to it: 01, 03 or 0F where it is denied, else its capacity.
-pub fn may_write(t: Table, l: Link, handle: u16) -> Writable
-    ensures { result ≡ write_at l.encrypted handle (entries t) }
+// How many bytes may be written to it: 01, 03 or 0F where it is denied, else its capacity.
+pub fn may_write(table: Table, link: Link, handle: u16) -> Result<usize, AttErrorCode>
+    ensures { result ≡ write_at link.encrypted handle (entries table) }
 {
-    match table_records::find(t, handle) {
-        Sought::Missing => Writable::Denied(AttErrorCode::INVALID_HANDLE),
-        Sought::At(i) => {
-            let r = t.records[i];
-            room(r, l.encrypted)
-        }
+    match table_records::find(table, handle) {
+        Sought::Missing => Err(AttErrorCode::INVALID_HANDLE),
+        Sought::At(i) => room(table.records[i], link.encrypted),
     }
 }
 
 // Storing a value of `len` bytes there: the same, and 0D where it is over the capacity.
 #[tactic(auto, unfolding(crate::specs::Permit::store_at))]
-pub fn may_store(t: Table, l: Link, handle: u16, len: usize) -> Permission
-    ensures { result ≡ store_at l.encrypted handle len (entries t) }
+pub fn may_store(
+    table: Table,
+    link: Link,
+    handle: u16,
+    len: usize,
+) -> Result<(), AttErrorCode>
+    ensures { result ≡ store_at link.encrypted handle len (entries table) }
 {
-    match may_write(t, l, handle) {
-        Writable::Denied(code) => Permission::Denied(code),
-        Writable::UpTo(capacity) => {
-            if capacity < len {
-                return Permission::Denied(AttErrorCode::INVALID_ATTRIBUTE_VALUE_LENGTH);
-            }
-            Permission::Allowed
-        }
+    if may_write(table, link, handle)? < len {
+        return Err(AttErrorCode::INVALID_ATTRIBUTE_VALUE_LENGTH);
     }
+    Ok(())
 }
 
 #[tactic(auto, unfolding(crate::specs::Permit::writable_by))]
-fn room(r: Record, encrypted: bool) -> Writable
+fn room(r: Record, encrypted: bool) -> Result<usize, AttErrorCode>
     ensures { result ≡ writable_by encrypted r }
 {
     if !r.writable {
-        return Writable::Denied(AttErrorCode::WRITE_NOT_PERMITTED);
+        return Err(AttErrorCode::WRITE_NOT_PERMITTED);
     }
-    if r.write_encrypted {
-        if !encrypted {
-            return Writable::Denied(AttErrorCode::INSUFFICIENT_ENCRYPTION);
-        }
-        return Writable::UpTo(capacity(r));
+    if r.write_encrypted && !encrypted {
+        return Err(AttErrorCode::INSUFFICIENT_ENCRYPTION);
     }
-    Writable::UpTo(capacity(r))
+    Ok(capacity(r))
 }
 
 // A fixed value has no room: it is never writable in a sound table.
 fn capacity(r: Record) -> usize
     ensures { result ≡ slot_size (slot_of r.place) }
 {
-    let place = r.place;
-    match place {
-        Place::Fixed { at: _, len: _ } => 0,
-        Place::Live {
-            at: _,
-            capacity,
-            len: _,
-        } => capacity,
+    match r.place {
+        Place::Fixed { .. } => 0,
+        Place::Live { capacity, .. } => capacity,
     }
 }

@@ -11,26 +11,18 @@ ghost use Rattle.serve_record.specs.Permissions.{permission_of};
 use att_error::AttErrorCode;
 use attributes::{Place, Record};
 
-#[derive(Clone, Copy)]
-pub enum Permission {
-    Allowed,
-    Denied(AttErrorCode),
-}
-
 // Whether a link may read the record's value, or the code that it is refused with.
 #[tactic(auto, unfolding(crate::specs::Permissions::permission_of))]
-pub fn may_read(r: Record, encrypted: bool) -> Permission
+pub fn may_read(r: Record, encrypted: bool) -> Result<(), AttErrorCode>
     ensures { result ≡ permission_of encrypted r }
 {
     if !r.readable {
-        return Permission::Denied(AttErrorCode::READ_NOT_PERMITTED);
+        return Err(AttErrorCode::READ_NOT_PERMITTED);
     }
-    if r.read_encrypted {
-        if !encrypted {
-            return Permission::Denied(AttErrorCode::INSUFFICIENT_ENCRYPTION);
-        }
+    if r.read_encrypted && !encrypted {
+        return Err(AttErrorCode::INSUFFICIENT_ENCRYPTION);
     }
-    Permission::Allowed
+    Ok(())
 }
 
 // Whether the record has the type of these bytes.
@@ -45,9 +37,9 @@ pub fn has_type(r: Record, kind: &[u8]) -> bool
 }
 
 // Whether the whole value is this one.
+#[tactic(auto, using(codec::specs::CasesLaws::same_eq))]
 pub fn holds<'a>(place: Place, fixed: &'a [u8], live: &'a [u8], wanted: &[u8]) -> bool
     ensures { result ≡ same (value_of place fixed.now live.now) wanted.now }
 {
-    let held = table_records::value(place, fixed, live);
-    held == wanted
+    table_records::value(place, fixed, live) == wanted
 }

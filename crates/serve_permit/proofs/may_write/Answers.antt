@@ -1,33 +1,32 @@
 -- The record that was found, if any, gives the answer.
-use Rattle.std.proofs.Common.{◌≡◌, ◌<◌, length, sym, ◌∙◌, arith, rules}
+use Rattle.std.proofs.Common.{Err, ◌≡◌, ◌<◌, length, sym, ◌∙◌, arith, rules}
 use Rattle.att.specs.Typed.{code}
 use Rattle.attributes.specs.FindLaws.{missing_gives, found_gives, found_64}
 use Rattle.attributes.specs.ListLaws.{length_mapped}
 use Rattle.attributes.specs.Records.{entries}
-use Rattle.serve_permit.specs.declared.Writable.TheVariants.{Denied}
 use Rattle.serve_permit.specs.Permit.{write_at, writable_by}
 use Rattle.serve_permit.proofs.may_write.Goals as goal
 
-pub offset_bounds-t-i : goal.offset_bounds-t-i
-offset_bounds-t-i c =
-    let e : length c.args.t.records ≡ 64 = search (rules, length_mapped) in
-    let b : c.in-At.i < 64 = found_64 c.args.t c.args.handle _ e (sym c.find.ensures ∙ c.in-At.is) in
+pub offset_bounds-table-i : goal.offset_bounds-table-i
+offset_bounds-table-i c =
+    let e : length c.args.table.records ≡ 64 = search (rules, length_mapped) in
+    let b : c.in-At.i < 64 = found_64 c.args.table c.args.handle _ e (sym c.find.ensures ∙ c.in-At.is) in
     omega arith
 
-pub bounds-t-i : goal.bounds-t-i
-bounds-t-i c =
-    let e : length c.args.t.records ≡ 64 = search (rules, length_mapped) in
-    found_64 c.args.t c.args.handle _ e (sym c.find.ensures ∙ c.in-At.is)
+pub bounds-table-i : goal.bounds-table-i
+bounds-table-i c =
+    let e : length c.args.table.records ≡ 64 = search (rules, length_mapped) in
+    found_64 c.args.table c.args.handle _ e (sym c.find.ensures ∙ c.in-At.is)
 
 pub returns-in-Missing : goal.returns-in-Missing
 unfolding write_at
 returns-in-Missing c =
     let a = c.args in
-    sym (missing_gives a.handle (writable_by a.l.encrypted) (Denied (code 0x01)) 0 (entries a.t) (sym c.find.ensures ∙ c.in-Missing.is))
+    sym (missing_gives a.handle (writable_by a.link.encrypted) (Err (code 0x01)) 0 (entries a.table) (sym c.find.ensures ∙ c.in-Missing.is))
 
 pub returns-in-At : goal.returns-in-At
 unfolding write_at
 returns-in-At c =
     let a = c.args in
     let e = sym c.find.ensures ∙ c.in-At.is in
-    c.room.ensures ∙ sym (found_gives a.handle a.t.count c.in-At.i a.t.records _ e (writable_by a.l.encrypted) (Denied (code 0x01)))
+    c.room.ensures ∙ sym (found_gives a.handle a.table.count c.in-At.i a.table.records _ e (writable_by a.link.encrypted) (Err (code 0x01)))
