@@ -1,6 +1,6 @@
 -- A walk over parts gives what the book's search gives, joined over the area, where each item by itself fits into the room and the
 -- area holds the room.
-use Rattle.std.specs.Prelude.{ℕ, ◌+◌, ◌-◌, ◌≤◌, Bool, ◌&&◌, ◌≡◌, drop}
+use Rattle.std.specs.Prelude.{ℕ, ◌+◌, ◌-◌, ◌≤◌, Bool, ◌&&◌, ◌≡◌, drop, Option, Some, None, Result, Ok, Err}
 use Rattle.std.proofs.Math.Bool.{true, false}
 use Rattle.std.proofs.Math.Path.{refl, ap, subst}
 use Rattle.std.proofs.Common.{sym, ◌∙◌, drop-drop, take_at, drop_at}
@@ -20,13 +20,11 @@ use Rattle.answers.specs.Replies as book
 use Rattle.answers.specs.Replies.{Part, keep, more, search}
 use Rattle.answers.specs.View.{View}
 use Rattle.serve_collect.specs.CollectLaws.{fit_here}
-use Rattle.serve_collect.specs.Collect.{Walk, fit_at, spot_for, taken_at, taken, step, fold, is_ended, found_by, shown_found, shown_on}
-use Rattle.serve_collect.specs.declared.Gathered.{Gathered}
-use Rattle.serve_collect.specs.declared.Gathered.TheVariants.{Failed, Listed}
+use Rattle.serve_collect.specs.Collect.{Gathered, listed, failed, Walk, fit_at, spot_for, taken_at, taken, step, fold, is_ended, found_by, shown_found, shown_on}
+use Rattle.serve_collect.specs.declared.Failed.{Failed}
+use Rattle.serve_collect.specs.declared.Listed.{Listed}
 use Rattle.serve_collect.specs.declared.Progress.{Progress}
 use Rattle.serve_collect.specs.declared.Progress.TheVariants.{Seeking, Taking, Ended}
-use Rattle.serve_collect.specs.declared.Spot.{Spot}
-use Rattle.serve_collect.specs.declared.Spot.TheVariants.{At, Nowhere}
 
 -- a walk's end, as what was found and the area
 abbrev pub Ends : Walk → Gathered → List ℕ → Type 0
@@ -38,7 +36,7 @@ Fits room (book.Take b) = length b ≤ room
 Fits room (book.Fail h code) = Unit
 
 -- Behind its end nothing is added to a list: a search that goes on there has the same answer.
-ended_walk : (room : ℕ) (x : Gathered) (s : List ℕ) (ps : List Part) → fold (step room) (Ended x, s) ps ≡ (Ended x, s)
+ended_walk : (room : ℕ) (x : Result Listed Failed) (s : List ℕ) (ps : List Part) → fold (step room) (Ended x, s) ps ≡ (Ended x, s)
 unfolding taken
 ended_walk room x s [] = refl
 ended_walk room x s (book.Skip ∷ ps) = ended_walk room x s ps
@@ -47,7 +45,7 @@ ended_walk room x s (book.Fail h code ∷ ps) = ended_walk room x s ps
 
 pub ended_stays : (room : ℕ) (p : Progress) (s : List ℕ) (ps : List Part) → is_ended p ≡ true → fold (step room) (p, s) ps ≡ (p, s)
 ended_stays room Seeking s ps e = impossible (cc)
-ended_stays room (Taking each used) s ps e = impossible (cc)
+ended_stays room (Taking x) s ps e = impossible (cc)
 ended_stays room (Ended x) s ps e = ended_walk room x s ps
 
 -- what stands outside of a range gives nothing
@@ -69,48 +67,48 @@ module _ (room : ℕ) (area : List ℕ) (holds : room ≤ length area) where
       let k : length b + length x ≤ length (over b area) = rw (over_length b area (omega arith)) (omega arith) in
       rw (le-leb _ _ k, take_at b (drop (length b) area) (length b) refl, drop_at b (drop (length b) area) (length b) refl, drop-drop, length-append, append_assoc)
 
-  ends : (x : Gathered) (s : List ℕ) (ps : List Part) → Ends (fold (step room) (Ended x, s) ps) x s
+  ends : (x : Result Listed Failed) (s : List ℕ) (ps : List Part) → Ends (fold (step room) (Ended x, s) ps) (Some x) s
   ends x s ps = let e = ended_walk room x s ps in (ap (λ (w : Walk). found_by w.0) e, ap (λ (w : Walk). w.1) e)
 
   -- the list so far and no more, or with one item more
   abbrev With : Walk → ℕ → List ℕ → Type 0
-  With w n b = Ends w (Listed n (length b)) (over b area)
+  With w n b = Ends w (Some (Ok (listed n (length b)))) (over b area)
 
   none_more : (w : Walk) (n : ℕ) (b : List ℕ) → With w n b → With w n (b ++ [])
   none_more w n b k = subst (λ (l : List ℕ). With w n l) (sym (append-nil b)) k
 
   another : (n : ℕ) (b x y : List ℕ) (ps : List Part) → length x ≡ n → length b + n ≤ room
-      → With (fold (step room) (Taking n (length (b ++ x)), over (b ++ x) area) ps) n ((b ++ x) ++ y)
-      → With (fold (step room) (Taking (length x) (length b + length x), laid_at (length b) x (over b area)) ps) n (b ++ (x ++ y))
+      → With (fold (step room) (Taking (listed n (length (b ++ x))), over (b ++ x) area) ps) n ((b ++ x) ++ y)
+      → With (fold (step room) (Taking (listed (length x) (length b + length x)), laid_at (length b) x (over b area)) ps) n (b ++ (x ++ y))
   another n b x y ps e h k =
       let s : laid_at (length b) x (over b area) ≡ over (b ++ x) area = over_more b x (omega arith) in
       let u : length b + length x ≡ length (b ++ x) = sym (length-append b x) in
-      let q : ◌≡◌ {A = Walk} (Taking (length x) (length b + length x), laid_at (length b) x (over b area)) (Taking n (length (b ++ x)), over (b ++ x) area) = rw (s, u, e) in
+      let q : ◌≡◌ {A = Walk} (Taking (listed (length x) (length b + length x)), laid_at (length b) x (over b area)) (Taking (listed n (length (b ++ x))), over (b ++ x) area) = rw (s, u, e) in
       subst (λ (w : Walk). With (fold (step room) w ps) n (b ++ (x ++ y))) (sym q)
-      (subst (λ (l : List ℕ). With (fold (step room) (Taking n (length (b ++ x)), over (b ++ x) area) ps) n l) (append_assoc b x y) k)
+      (subst (λ (l : List ℕ). With (fold (step room) (Taking (listed n (length (b ++ x))), over (b ++ x) area) ps) n l) (append_assoc b x y) k)
 
-  spot_is : (n len used : ℕ) → used ≤ room → spot_for room len (Taking n used) ≡ pick (eqb len n && leb n (room - used)) (At used) Nowhere
+  spot_is : (n len used : ℕ) → used ≤ room → spot_for room len (Taking (listed n used)) ≡ pick (eqb len n && leb n (room - used)) (Some used) None
   unfolding fit_at
   spot_is n len used h = by (eqb len n) refl
     where
-      by : (c : Bool) → eqb len n ≡ c → pick c (fit_at room len used) Nowhere ≡ pick (c && leb n (room - used)) (At used) Nowhere
+      by : (c : Bool) → eqb len n ≡ c → pick c (fit_at room len used) None ≡ pick (c && leb n (room - used)) (Some used) None
       by true q = rw (le-leb used room h, eqb-true len n q)
       by false q = refl
 
   taking : (n : ℕ) (b : List ℕ) (ps : List Part) → length b ≤ room
-      → With (fold (step room) (Taking n (length b), over b area) ps) n (b ++ joined (more n (room - length b) ps))
+      → With (fold (step room) (Taking (listed n (length b)), over b area) ps) n (b ++ joined (more n (room - length b) ps))
   unfolding more taken
-  taking n b [] h = none_more (Taking n (length b), over b area) n b (refl, refl)
+  taking n b [] h = none_more (Taking (listed n (length b)), over b area) n b (refl, refl)
   taking n b (book.Skip ∷ ps) h = taking n b ps h
   taking n b (book.Take x ∷ ps) h =
       subst
-      (λ (s : Spot). With (fold (step room) (taken_at s x (Taking n (length b)) (over b area)) ps) n
+      (λ (s : Option ℕ). With (fold (step room) (taken_at s x (Taking (listed n (length b))) (over b area)) ps) n
       (b ++ joined (pick (eqb (length x) n && leb n (room - length b)) (x ∷ more n (room - length b - n) ps) [])))
       (sym (spot_is n (length x) (length b) h)) (fitting (eqb (length x) n && leb n (room - length b)) refl (λ k. taking n (b ++ x) ps k))
     where
       fitting : (c : Bool) → (eqb (length x) n && leb n (room - length b)) ≡ c
-          → (length (b ++ x) ≤ room → With (fold (step room) (Taking n (length (b ++ x)), over (b ++ x) area) ps) n ((b ++ x) ++ joined (more n (room - length (b ++ x)) ps)))
-          → With (fold (step room) (taken_at (pick c (At (length b)) Nowhere) x (Taking n (length b)) (over b area)) ps) n
+          → (length (b ++ x) ≤ room → With (fold (step room) (Taking (listed n (length (b ++ x))), over (b ++ x) area) ps) n ((b ++ x) ++ joined (more n (room - length (b ++ x)) ps)))
+          → With (fold (step room) (taken_at (pick c (Some (length b)) None) x (Taking (listed n (length b))) (over b area)) ps) n
           (b ++ joined (pick c (x ∷ more n (room - length b - n) ps) []))
       fitting true q ih =
           let g = both (eqb (length x) n) _ q in
@@ -120,18 +118,18 @@ module _ (room : ℕ) (area : List ℕ) (holds : room ≤ length area) where
           let k : room - length (b ++ x) ≡ room - length b - n = omega arith in
           let j : length (b ++ x) ≤ room = omega arith in
           subst
-          (λ (i : ℕ). With (fold (step room) (Taking (length x) (length b + length x), laid_at (length b) x (over b area)) ps) n (b ++ (x ++ joined (more n i ps))))
+          (λ (i : ℕ). With (fold (step room) (Taking (listed (length x) (length b + length x)), laid_at (length b) x (over b area)) ps) n (b ++ (x ++ joined (more n i ps))))
           k (another n b x (joined (more n (room - length (b ++ x)) ps)) ps e (omega arith) (ih j))
-      fitting false q ih = none_more (fold (step room) (Ended (Listed n (length b)), over b area) ps) n b (ends (Listed n (length b)) (over b area) ps)
+      fitting false q ih = none_more (fold (step room) (Ended (Ok (listed n (length b))), over b area) ps) n b (ends (Ok (listed n (length b))) (over b area) ps)
   taking n b (book.Fail a code ∷ ps) h =
-      none_more (fold (step room) (Ended (Listed n (length b)), over b area) ps) n b (ends (Listed n (length b)) (over b area) ps)
+      none_more (fold (step room) (Ended (Ok (listed n (length b))), over b area) ps) n b (ends (Ok (listed n (length b))) (over b area) ps)
 
-  first_at : (x : List ℕ) → length x ≤ room → ◌≡◌ {A = Walk} (taken room x Seeking area) (Taking (length x) (length x), over x area)
+  first_at : (x : List ℕ) → length x ≤ room → ◌≡◌ {A = Walk} (taken room x Seeking area) (Taking (listed (length x) (length x)), over x area)
   unfolding taken
   first_at x h =
       let z : 0 + length x ≡ length x = omega arith in
-      ap (λ (s : Spot). taken_at s x Seeking area) (sym (fit_here room (length x) 0 (omega arith) (omega arith)))
-      ∙ ap (λ (k : ℕ). (Taking (length x) k, pick (leb k (length area)) (over x area) area)) z
+      ap (λ (s : Option ℕ). taken_at s x Seeking area) (sym (fit_here room (length x) 0 (omega arith) (omega arith)))
+      ∙ ap (λ (k : ℕ). (Taking (listed (length x) k), pick (leb k (length area)) (over x area) area)) z
       ∙ rw (le-leb (length x) (length area) (omega arith))
 
   pub search_is : (ps : List Part) → Each (Fits room) ps
@@ -142,4 +140,4 @@ module _ (room : ℕ) (area : List ℕ) (holds : room ≤ length area) where
   search_is (book.Take x ∷ ps) a =
       subst (λ (w : Walk). With (fold (step room) w ps) (length x) (x ++ joined (more (length x) (room - length x) ps))) (sym (first_at x a.0))
       (taking (length x) x ps a.0)
-  search_is (book.Fail h n ∷ ps) a = ends (Failed h (code n)) area ps
+  search_is (book.Fail h n ∷ ps) a = ends (Err (failed h (code n))) area ps

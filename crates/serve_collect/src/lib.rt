@@ -9,19 +9,26 @@ ghost use Rattle.serve_collect.specs.Collect.{head_of, fit_at, spot_for, stopped
 
 use att_error::AttErrorCode;
 
+// The items of a list: of `item_len` bytes each, and of `used` bytes together.
 #[derive(Clone, Copy)]
-pub enum Gathered {
-    None,
-    Failed { handle: u16, code: AttErrorCode },
-    Listed { item_len: u8, used: usize },
+pub struct Listed {
+    pub item_len: u8,
+    pub used: usize,
+}
+
+// A first match that the link may not read: its handle, and the code that it is refused with.
+#[derive(Clone, Copy)]
+pub struct Failed {
+    pub handle: u16,
+    pub code: AttErrorCode,
 }
 
 // How far a search is.
 #[derive(Clone, Copy)]
 pub enum Progress {
     Seeking,
-    Taking { item_len: u8, used: usize },
-    Ended { found: Gathered },
+    Taking(Listed),
+    Ended(Result<Listed, Failed>),
 }
 
 // An item's first bytes: a handle, or a handle and the end of its group.
@@ -31,25 +38,19 @@ pub enum Head {
     Range(u16, u16),
 }
 
-#[derive(Clone, Copy)]
-enum Spot {
-    At(usize),
-    Nowhere,
-}
-
 // An item behind those taken so far, if it is of their length and fits into the room; else the list ends.
 pub fn append(head: Head, tail: &[u8], room: u8, state: Progress, items: &mut [u8]) -> Progress
     ensures { taken room (head_of head ++ tail.now) state items.old ≡ (result, items.new) }
 {
     let len = head_len(head) + tail.len();
     match spot_for(state, len, room) {
-        Spot::Nowhere => stop(state),
-        Spot::At(at) => {
+        None => stop(state),
+        Some(at) => {
             lay_at(at, head, tail, items);
-            Progress::Taking {
+            Progress::Taking(Listed {
                 item_len: len as u8,
                 used: at + len,
-            }
+            })
         }
     }
 }
@@ -59,13 +60,9 @@ pub fn fail(state: Progress, handle: u16, code: AttErrorCode) -> Progress
     ensures { result ≡ failing handle code state }
 {
     match state {
-        Progress::Seeking => Progress::Ended {
-            found: Gathered::Failed { handle, code },
-        },
-        Progress::Taking { item_len, used } => Progress::Ended {
-            found: Gathered::Listed { item_len, used },
-        },
-        Progress::Ended { found } => Progress::Ended { found },
+        Progress::Seeking => Progress::Ended(Err(Failed { handle, code })),
+        Progress::Taking(list) => Progress::Ended(Ok(list)),
+        Progress::Ended(_) => state,
     }
 }
 
@@ -73,23 +70,17 @@ pub fn fail(state: Progress, handle: u16, code: AttErrorCode) -> Progress
 pub fn ended(state: Progress) -> bool
     ensures { result ≡ is_ended state }
 {
-    match state {
-        Progress::Seeking => false,
-        Progress::Taking {
-            item_len: _,
-            used: _,
-        } => false,
-        Progress::Ended { found: _ } => true,
-    }
+    matches!(state, Progress::Ended(_))
 }
 
-pub fn result(state: Progress) -> Gathered
+// What was found: nothing, a list, or a first match that may not be read.
+pub fn result(state: Progress) -> Option<Result<Listed, Failed>>
     ensures { result ≡ found_by state }
 {
     match state {
-        Progress::Seeking => Gathered::None,
-        Progress::Taking { item_len, used } => Gathered::Listed { item_len, used },
-        Progress::Ended { found } => found,
+        Progress::Seeking => None,
+        Progress::Taking(list) => Some(Ok(list)),
+        Progress::Ended(found) => Some(found),
     }
 }
 
@@ -98,41 +89,30 @@ fn stop(state: Progress) -> Progress
     ensures { result ≡ stopped state }
 {
     match state {
-        Progress::Seeking => Progress::Seeking,
-        Progress::Taking { item_len, used } => Progress::Ended {
-            found: Gathered::Listed { item_len, used },
-        },
-        Progress::Ended { found } => Progress::Ended { found },
+        Progress::Taking(list) => Progress::Ended(Ok(list)),
+        _ => state,
     }
 }
 
 // Where an item of `len` bytes goes.
-fn spot_for(state: Progress, len: usize, room: u8) -> Spot
+fn spot_for(state: Progress, len: usize, room: u8) -> Option<usize>
     ensures { result ≡ spot_for room len state }
 {
     match state {
         Progress::Seeking => fit(0, len, room as usize),
-        Progress::Taking { item_len, used } => {
-            if len != item_len as usize {
-                return Spot::Nowhere;
-            }
-            fit(used, len, room as usize)
-        }
-        Progress::Ended { found: _ } => Spot::Nowhere,
+        Progress::Taking(list) if len == list.item_len as usize => fit(list.used, len, room as usize),
+        _ => None,
     }
 }
 
 #[tactic(auto, unfolding(crate::specs::Collect::fit_at))]
-fn fit(at: usize, len: usize, room: usize) -> Spot
+fn fit(at: usize, len: usize, room: usize) -> Option<usize>
     ensures { result ≡ fit_at room len at }
 {
-    if room < at {
-        return Spot::Nowhere;
+    if at <= room && len <= room - at {
+        return Some(at);
     }
-    if room - at < len {
-        return Spot::Nowhere;
-    }
-    Spot::At(at)
+    None
 }
 
 fn head_len(head: Head) -> usize
@@ -148,17 +128,9 @@ fn head_len(head: Head) -> usize
 fn lay_at(at: usize, head: Head, tail: &[u8], items: &mut [u8])
     ensures { items.new ≡ laid_at at (head_of head ++ tail.now) items.old }
 {
-    if items.len() < at {
-        return;
+    if at <= items.len() && head_len(head) + tail.len() <= items.len() - at {
+        lay(head, tail, &mut items[at..]);
     }
-    let n = head_len(head);
-    if items.len() - at < n {
-        return;
-    }
-    if items.len() - at - n < tail.len() {
-        return;
-    }
-    lay(head, tail, &mut items[at..]);
 }
 
 fn lay(head: Head, tail: &[u8], dest: &mut [u8])

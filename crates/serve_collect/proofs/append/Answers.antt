@@ -5,19 +5,19 @@ use Rattle.serve_collect.specs.CollectLaws.{spot_fits, taken_here, taken_nowhere
 use Rattle.serve_collect.proofs.append.Goals as goal
 
 pub overflow_cast-result : goal.overflow_cast-result
-overflow_cast-result c = let a = c.args in omega (arith, spot_fits a.room _ a.state _ (sym c.in-At.ensures))
+overflow_cast-result c = let a = c.args in omega (arith, spot_fits a.room _ a.state _ (sym c.in-Some.ensures))
 
 pub overflow_add-result : goal.overflow_add-result
-overflow_add-result c = let a = c.args in omega (arith, spot_fits a.room _ a.state _ (sym c.in-At.ensures))
+overflow_add-result c = let a = c.args in omega (arith, spot_fits a.room _ a.state _ (sym c.in-Some.ensures))
 
-pub returns-in-Nowhere : goal.returns-in-Nowhere
-returns-in-Nowhere c =
+pub returns-in-None : goal.returns-in-None
+returns-in-None c =
     let a = c.args in
     taken_nowhere a.room (head_of a.head ++ a.tail.now) a.state _ a.items.now _ (omega (arith, length-append (head_of a.head) a.tail.now))
-    (sym c.in-Nowhere.ensures) c.stop.ensures
+    (sym c.in-None.ensures) c.stop.ensures
 
-pub returns-in-At : goal.returns-in-At
-returns-in-At c =
+pub returns-in-Some : goal.returns-in-Some
+returns-in-Some c =
     let a = c.args in
     taken_here a.room (head_of a.head ++ a.tail.now) a.state a.items.now _ _ _ (omega (arith, length-append (head_of a.head) a.tail.now))
-    (sym c.in-At.ensures) c.lay_at.ensures
+    (sym c.in-Some.ensures) c.lay_at.ensures
