@@ -3,6 +3,7 @@
 -- One relation, `Agree`, is kept by each step. Answers are equal because a reply is a function of the view, the link and the packet
 -- alone. The views after a store are a function of the records, lengths apart, and of the views before it; a store that the link may
 -- not read leaves its views. Then by induction over the two sequences.
+use Rattle.std.specs.Prelude.{Result}
 use Prim.Native.Nat.{ℕ, ◌≤◌}
 use mathlib.Core.Bool.{Bool, true, false}
 use mathlib.Core.Path.{◌≡◌, refl, sym, ◌∙◌, ap, ap₂}
@@ -13,6 +14,7 @@ use lib.Dec.{eqb}
 use borrow.Author.Tests.{eqb-true, ne_eqb}
 use Rattle.codec.specs.Cases.{pick}
 use Rattle.codec.specs.CasesLaws.{impossible, both}
+use Rattle.codec.specs.declared.Refusal.{Refusal}
 use Rattle.att.specs.Wire.{first}
 use Rattle.attributes.specs.Additions.{fresh, fresh_item, layout}
 use Rattle.attributes.specs.Ledger.{Item, holding, item, valued}
@@ -23,7 +25,6 @@ use Rattle.attributes.proofs.SoundnessLaws.{good, sound_parts}
 use Rattle.attributes.proofs.StoreLaws.{grown_slot}
 use Rattle.attributes.specs.Stores.{takes, put}
 use Rattle.attributes.specs.declared.Addition.{Addition}
-use Rattle.attributes.specs.declared.Outcome.{Outcome}
 use Rattle.attributes.specs.declared.Record.{Record}
 use Rattle.answers.specs.View.{View, view, Value, NoRead, may_read, unreadable, may_read_at}
 use Rattle.answers.specs.Replies.{Effect, Nothing, Stores, Agrees, Reply, reply_to}
@@ -173,13 +174,13 @@ module _ (s t : State) (p : List ℕ) (room : ℕ) (a : Agree s t) where
   same_heard : heard_of s (Send p room) ≡ heard_of t (Send p room)
   unfolding heard_of serve answered
   same_heard =
-      ap₂ {C = List Heard} (λ (o : Outcome) (q : Reply). heard_by o (spoken q.says (first p) room) ∷ []) same_refusal same_reply
+      ap₂ {C = List Heard} (λ (o : Result Unit Refusal) (q : Reply). heard_by o (spoken q.says (first p) room) ∷ []) same_refusal same_reply
 
   same_sent : Agree (after s (Send p room)) (after t (Send p room))
   unfolding asks
   same_sent =
       let same : asks s p room ≡ asks t p room =
-      ap₂ (λ (o : Outcome) (q : Reply). effect_by o (does q.says room q.effect)) same_refusal same_reply in
+      ap₂ (λ (o : Result Unit Refusal) (q : Reply). effect_by o (does q.says room q.effect)) same_refusal same_reply in
       rw (send_is s p room, send_is t p room, same) (same_change s t (asks t p room) a)
 
 both_stored : (s t : State) (h : ℕ) (v w : List ℕ) → (may_read_in s.link.encrypted h (skeleton s.table) ≡ true → v ≡ w) → Agree s t

@@ -1,5 +1,6 @@
 -- The auditor's sentence, what is held: an attribute holds the value that was last accepted for it, and otherwise what it held; a
 -- write reaches one handle only; a fixed value never changes. By induction over the steps, from what a store does to the ledger.
+use Rattle.std.specs.Prelude.{Result, Ok, Err}
 use Prim.Native.Nat.{ℕ, ◌/◌, ◌%◌}
 use mathlib.Core.Bool.{Bool, true, false, ◌&&◌}
 use mathlib.Core.Path.{◌≡◌, refl, sym, ◌∙◌, ap}
@@ -10,6 +11,7 @@ use lib.Dec.{leb, eqb}
 use borrow.Author.Tests.{eqb-true, eqb-false, eq-eqb, ne_eqb}
 use Rattle.codec.specs.Cases.{pick}
 use Rattle.codec.specs.CasesLaws.{impossible}
+use Rattle.codec.specs.declared.Refusal.{Refusal}
 use Rattle.primitives.specs.Numbers.{number_at}
 use Rattle.att.specs.Wire.{meaning, rows, shape_of, strict, send}
 use Rattle.attributes.specs.FindLaws.{first_two}
@@ -19,8 +21,6 @@ use Rattle.attributes.specs.Lists.{Each}
 use Rattle.attributes.specs.Records.{Kept}
 use Rattle.attributes.proofs.StoreLaws as laws
 use Rattle.attributes.specs.Stores.{takes, put, slot_refusal, store_refusal, live_by}
-use Rattle.attributes.specs.declared.Outcome.{Outcome}
-use Rattle.attributes.specs.declared.Outcome.TheVariants as outcome
 use Rattle.answers.specs.Replies.{Packet, Effect, Nothing, Stores, Agrees, Reply, doing, error_packet, error, writing, write}
 use Rattle.answers.specs.View.{View, Writing, UpTo, NoWrite}
 use Rattle.answers.specs.Serve.{State, sound, ledger, views, changed, Bytes, unlikely, spoken, serve_refusal, heard_by, answered, asks, serve, own_outcome, Step, Send, Store, Encrypt, after, run}
@@ -29,13 +29,13 @@ use Rattle.answers.proofs.Lists.{each_keep}
 use Rattle.answers.proofs.Steps.{store_ledger, send_is, store_is, after_sound}
 use Rattle.answers.proofs.Writes.{allows_by, allows, allows_is, row_12, accepted_packet}
 
-last_of_lem : (h k : ℕ) (v d : List ℕ) (o : Outcome) → last_for k d (pick (passes o) ((h, v) ∷ []) []) ≡ live_by o (pick (eqb h k) v d) d
-last_of_lem h k v d outcome.Accepted = refl
-last_of_lem h k v d (outcome.Refused why) = refl
+last_of_lem : (h k : ℕ) (v d : List ℕ) (o : Result Unit Refusal) → last_for k d (pick (passes o) ((h, v) ∷ []) []) ≡ live_by o (pick (eqb h k) v d) d
+last_of_lem h k v d (Ok u) = refl
+last_of_lem h k v d (Err why) = refl
 
-same_by : (o : Outcome) (d : List ℕ) → live_by o d d ≡ d
-same_by outcome.Accepted d = refl
-same_by (outcome.Refused why) d = refl
+same_by : (o : Result Unit Refusal) (d : List ℕ) → live_by o d d ≡ d
+same_by (Ok u) d = refl
+same_by (Err why) d = refl
 
 put_value : (h k : ℕ) (v : List ℕ) (is : List Item) → value_at k (map (put h v) is) ≡ last_for k (value_at k is) (accepted_of (Stores h v) is)
 put_value h k v is = decide (eqb h k) refl ∙ sym (last_of_lem h k v (value_at k is) (store_refusal h (length v) is))
@@ -69,7 +69,7 @@ step_value s (Send p room) k o =
     ∙ ap (last_for k (value_at k (ledger s))) (accepted_packet s o p room)
 step_value s (Store h v) k o =
     ap (λ (t : State). value_at k (ledger t)) (store_is s h v o) ∙ changed_value s k (Stores h v) o
-    ∙ ap (λ (r : Outcome). last_for k (value_at k (ledger s)) (pick (passes r) ((h, v) ∷ []) [])) (sym (own_accepted s h v o))
+    ∙ ap (λ (r : Result Unit Refusal). last_for k (value_at k (ledger s)) (pick (passes r) ((h, v) ∷ []) [])) (sym (own_accepted s h v o))
 step_value s (Encrypt e) k o = refl
 
 -- WHAT IS HELD at a handle is what was last written there, or what it was at the start.
@@ -106,7 +106,7 @@ pub written_is_held : (s : State) (p : List ℕ) (room h : ℕ) (v : List ℕ) �
 unfolding accepted_in
 written_is_held s p room h v k says takes = step_value s (Send p room) h k ∙ rw (says, takes, eq-eqb h h refl)
 
-pub stored_is_held : (s : State) (h : ℕ) (v : List ℕ) → sound s ≡ true → own_outcome s h v ≡ outcome.Accepted → value_at h (ledger (after s (Store h v))) ≡ v
+pub stored_is_held : (s : State) (h : ℕ) (v : List ℕ) → sound s ≡ true → own_outcome s h v ≡ Ok tt → value_at h (ledger (after s (Store h v))) ≡ v
 unfolding accepted_in
 stored_is_held s h v k e = step_value s (Store h v) h k ∙ rw (e, eq-eqb h h refl)
 
@@ -202,14 +202,14 @@ module _ (room : ℕ) where
   unfolding serve answered takes_write
   ack_takes s p = by (serve_refusal s (0x12 ∷ p) room) (leb (length (0x12 ∷ p)) s.link.mtu) (strict (0x12 ∷ p)) _ (row_12 (views s) s.link p)
     where
-      by : (o : Outcome) (a c : Bool) (r : Reply) → r ≡ pick a (pick c (write (views s) (number_at 2 0 p) (drop 2 p)) (error 0x12 0 0x04)) (error 0x12 0 0x04)
+      by : (o : Result Unit Refusal) (a c : Bool) (r : Reply) → r ≡ pick a (pick c (write (views s) (number_at 2 0 p) (drop 2 p)) (error 0x12 0 0x04)) (error 0x12 0 0x04)
           → heard_by o (spoken r.says 0x12 room) ≡ Bytes (0x13 ∷ [])
           → (passes o && (a && (c && writable_at s.link.encrypted (number_at 2 0 p, drop 2 p) (ledger s)))) ≡ true
-      by outcome.Accepted true true r q e =
+      by (Ok u) true true r q e =
           sym (allows_is s.link.encrypted (number_at 2 0 p) (drop 2 p) (ledger s)) ∙ ack_write (views s) (number_at 2 0 p) (drop 2 p) (rw q at e)
-      by outcome.Accepted true false r q e = absurd (not_13 0 0x04 (rw q at e))
-      by outcome.Accepted false c r q e = absurd (not_13 0 0x04 (rw q at e))
-      by (outcome.Refused why) a c r q e = impossible (cc)
+      by (Ok u) true false r q e = absurd (not_13 0 0x04 (rw q at e))
+      by (Ok u) false c r q e = absurd (not_13 0 0x04 (rw q at e))
+      by (Err why) a c r q e = impossible (cc)
 
 pub acknowledged : (s : State) (p : List ℕ) (room : ℕ) → sound s ≡ true → (serve s (0x12 ∷ p) room).heard ≡ Bytes (0x13 ∷ [])
     → (takes_write s (0x12 ∷ p) room (number_at 2 0 p, drop 2 p) ≡ true) × (value_at (number_at 2 0 p) (ledger (after s (Send (0x12 ∷ p) room))) ≡ drop 2 p)

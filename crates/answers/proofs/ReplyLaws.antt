@@ -1,18 +1,17 @@
 -- A walk over all replies: what holds of each kind of answer holds of every reply. By the reply's own tests, in their order.
-use Rattle.std.specs.Prelude.{ℕ, ◌-◌, min, max, Bool, ◌&&◌, ◌≡◌, length, take, drop}
+use Rattle.std.specs.Prelude.{ℕ, ◌-◌, min, max, Bool, ◌&&◌, ◌≡◌, length, take, drop, Result, Ok, Err}
 use Rattle.std.proofs.Math.Bool.{true, false, not}
 use Rattle.std.proofs.Math.Path.{refl}
 use mathlib.Core.List.{List, [], ◌∷◌, map}
 use Rattle.std.proofs.Math.Dec.{leb, eqb}
 use Rattle.std.proofs.Common.{eqb-true}
 use Rattle.codec.specs.Cases.{pick, lookup}
+use Rattle.codec.specs.declared.Refusal.{Refusal}
 use Rattle.primitives.specs.Numbers.{bytes_of}
 use Rattle.att.specs.Items.{joined}
 use Rattle.att.specs.Wire.{Meaning, meaning, shape_of, shape_means, strict, Coded, Sent, NotSent, send}
 use Rattle.attributes.specs.FindLaws.{first_each}
 use Rattle.attributes.specs.Lists.{Each}
-use Rattle.attributes.specs.declared.Outcome.{Outcome}
-use Rattle.attributes.specs.declared.Outcome.TheVariants.{Accepted, Refused}
 use Rattle.answers.specs.View.{view_at, View, Reading, Value, NoRead, Writing, UpTo, NoWrite}
 use Rattle.answers.specs.Replies.{Says, Packet, Effect, Nothing, Stores, Agrees, Found, None, Failed, Listed, listing, search, in_range, Silence, Reply, Part, Row, Serves, NotServed, doing, only, error_packet, error, exchange, value_told, blob_told, reading, read_reply, blob_reply, writing, write, range_ok, searched, groups, info, infos, find_information, pair, pairs, find_by_type_value, typed, values, read_by_type, grouped, group_values, read_by_group_type, nth, served, row_reply, request, silent, commanded, command, reply_to}
 use Rattle.answers.specs.Serve.{State, views, coded_does, does, serve_refusal, effect_by, asks}
@@ -208,6 +207,6 @@ by_asks Q s p room k n = by (serve_refusal s p room)
     r : Reply
     r = reply_to (views s) s.link p
 
-    by : (o : Outcome) → Q (effect_by o (does r.says room r.effect))
-    by Accepted = by_does Q r.says room r.effect k n
-    by (Refused why) = n
+    by : (o : Result Unit Refusal) → Q (effect_by o (does r.says room r.effect))
+    by (Ok u) = by_does Q r.says room r.effect k n
+    by (Err why) = n

@@ -1,6 +1,7 @@
 -- The auditor's sentence, what is told: what a client takes from an answer is what is held at that very handle, and a list has its
 -- items in the order of the handles, each with its own value. By the walk over all replies. A sound table has each handle once, so
 -- the value at a handle is that of the one attribute that has it; what was sent is read back as it was meant.
+use Rattle.std.specs.Prelude.{Result, Ok, Err}
 use Prim.Native.Nat.{ℕ, ◌+◌, ◌-◌, ◌≤◌, ◌<◌}
 use mathlib.Core.Bool.{Bool, true, false, ◌&&◌, not}
 use mathlib.Core.Path.{◌≡◌, refl, sym, ◌∙◌, ap}
@@ -11,12 +12,11 @@ use lib.Dec.{leb, eqb}
 use borrow.Author.Tests.{leb-true, eq-eqb, ne_eqb}
 use Rattle.codec.specs.Cases.{pick, lookup}
 use Rattle.codec.specs.CasesLaws.{impossible, both, same_equal}
+use Rattle.codec.specs.declared.Refusal.{Refusal}
 use Rattle.primitives.specs.Numbers.{bytes_of, number_of, number_at}
 use Rattle.primitives.specs.NumbersLaws.{number_bytes}
-use Rattle.ble_uuid.specs.Uuids.{own, equal_types}
-use Rattle.ble_uuid.specs.UuidsLaws.{own_length}
-use Rattle.ble_uuid.specs.declared.Form.{Form}
-use Rattle.ble_uuid.specs.declared.Form.TheVariants.{Uuid16, Uuid32, Uuid128}
+use Rattle.ble_uuid.specs.Uuids.{own, width_of, equal_types}
+use Rattle.ble_uuid.specs.declared.Uuid.TheVariants.{Uuid16, Uuid32, Uuid128}
 use Rattle.ble_uuid.specs.declared.Uuid.{Uuid}
 use Rattle.att.proofs.NoShift.{AllOf}
 use Rattle.att.specs.Items.{items_of, joined}
@@ -27,8 +27,6 @@ use Rattle.attributes.specs.Ledger.{Item, item, value_at}
 use Rattle.attributes.specs.Records.{entries, bare}
 use Rattle.attributes.specs.Soundness.{type_ok, record_ok, slots_end, records_ok}
 use Rattle.attributes.proofs.SoundnessLaws.{good, sound_parts}
-use Rattle.attributes.specs.declared.Outcome.{Outcome}
-use Rattle.attributes.specs.declared.Outcome.TheVariants.{Accepted, Refused}
 use Rattle.attributes.specs.declared.Record.{Record}
 use Rattle.answers.specs.View.{View, view, Reading, Value, NoRead, may_read, unreadable, reading_of}
 use Rattle.answers.specs.Replies.{Packet, Silence, Effect, Nothing, Stores, Reply, Part, Skip, Take, Listed, doing, only, error_packet, error, write, search, keep, in_range, range_ok, searched, groups, outlines, group_end, end_of, info, infos, find_information, holds, pair, pairs, find_by_type_value, value_part, typed, values, read_reply, blob_reply, read_by_type, grouped, group_values, read_by_group_type, nth, commanded, reply_to, mtu_ok, link_ok}
@@ -78,13 +76,13 @@ module _ (fl ll : ℕ) (fixed live : List ℕ) where
             (rise r.handle (slots_end at r) rs g.1) (alone_all r.handle (slots_end at r) rs g.1),
       )
 
-form_told : (u : Uuid) (f : Form) → u.form ≡ f → type_ok f ≡ true → length u.bytes ≡ 16 → Told05 (2 + length (own u))
-form_told u Uuid16 e o l = let n : length (own u) ≡ 2 = own_length u l ∙ rw e in rw n (refl, omega arith)
-form_told u Uuid32 e o l = impossible (cc)
-form_told u Uuid128 e o l = let n : length (own u) ≡ 16 = own_length u l ∙ rw e in rw n (refl, omega arith)
+form_told : (u : Uuid) → type_ok u ≡ true → length (own u) ≡ width_of u → Told05 (2 + length (own u))
+form_told (Uuid16 b) o l = rw l (refl, omega arith)
+form_told (Uuid32 b) o l = impossible (cc)
+form_told (Uuid128 b) o l = rw l (refl, omega arith)
 
 known_all : (fl ll last at : ℕ) (fixed live : List ℕ) (all : List Item) (rs : List Record) → records_ok fl ll last at rs ≡ true
-    → Each (λ (r : Record). (r.handle < 65536) × (length r.kind.bytes ≡ 16)) (map bare rs)
+    → Each (λ (r : Record). (r.handle < 65536) × (length (own r.kind) ≡ width_of r.kind)) (map bare rs)
     → Each (λ (i : Item). value_at i.handle all ≡ i.value) (map (item fixed live) rs) → Each (Known all) (map (item fixed live) rs)
 known_all fl ll last at fixed live all [] o t a = tt
 known_all fl ll last at fixed live all (r ∷ rs) o t a =
@@ -92,7 +90,7 @@ known_all fl ll last at fixed live all (r ∷ rs) o t a =
       record {
         alone = a.0;
         small = t.0.0;
-        form = form_told r.kind r.kind.form refl (good fl ll last at r g.0).form t.0.1;
+        form = form_told r.kind (good fl ll last at r g.0).kind t.0.1;
       },
       known_all fl ll r.handle (slots_end at r) fixed live all rs g.1 t.1 a.1,
     )
@@ -427,15 +425,15 @@ module _ (s : State) (k : sound s ≡ true) (typed : Typed s) where
       by_reply _ (views s) s.link op p
       (leaves s op room (wire.shape_means op (wire.shape_of op) p).numbers (wire.shape_means op (wire.shape_of op) p).tail (known s k typed) most)
 
-  link_most : (p : List ℕ) (room : ℕ) → serve_refusal s p room ≡ Accepted → s.link.mtu ≤ 247
+  link_most : (p : List ℕ) (room : ℕ) → serve_refusal s p room ≡ Ok tt → s.link.mtu ≤ 247
   unfolding serve_refusal link_ok mtu_ok
   link_most p room e = leb-true s.link.mtu 247 (both (leb 23 s.link.mtu) _ (each_passed (serve_tests s p room) e).1.0).1
 
-  fair_answer : (op : ℕ) (p : List ℕ) (room : ℕ) (o : Outcome) → serve_refusal s (op ∷ p) room ≡ o
+  fair_answer : (op : ℕ) (p : List ℕ) (room : ℕ) (o : Result Unit Refusal) → serve_refusal s (op ∷ p) room ≡ o
       → FairRead s (wire.shape_means op (wire.shape_of op) p) (read_heard (heard_by o (spoken (reply_to (views s) s.link (op ∷ p)).says op room)))
   unfolding Fair FairRead
-  fair_answer op p room Accepted e = fair_reply op p room (link_most (op ∷ p) room e)
-  fair_answer op p room (Refused why) e = (refl, tt)
+  fair_answer op p room (Ok u) e = fair_reply op p room (link_most (op ∷ p) room e)
+  fair_answer op p room (Err why) e = (refl, tt)
 
   fair_serve : (p : List ℕ) (room : ℕ) (q : wire.Meaning) → wire.read p ≡ wire.Means q → FairRead s q (read_heard (serve s p room).heard)
   unfolding wire.read serve answered

@@ -1,6 +1,7 @@
 -- The auditor's sentence, what is written. What a packet asks for is what its own bytes say: by the walk over all replies, of which only
 -- those to 12 and 52 store. And its write is accepted exactly where the book says so: by the rows of 12 and 52, whose tests are those
 -- of `takes_write`, and by the walk for all other packets.
+use Rattle.std.specs.Prelude.{Result, Ok, Err}
 use Prim.Native.Nat.{ℕ, ◌≤◌}
 use mathlib.Core.Bool.{Bool, true, false, ◌&&◌, ◌||◌, not}
 use mathlib.Core.Path.{◌≡◌, refl, ◌∙◌, ap}
@@ -11,6 +12,7 @@ use lib.Dec.{leb, eqb}
 use borrow.Author.Tests.{eqb-true, eqb-false, leb-true, le-leb}
 use Rattle.codec.specs.Cases.{pick}
 use Rattle.codec.specs.CasesLaws.{impossible, both}
+use Rattle.codec.specs.declared.Refusal.{Refusal}
 use Rattle.primitives.specs.Numbers.{number_at}
 use Rattle.att.specs.Wire.{meaning, rows, shape_of, shape_means, strict, send}
 use Rattle.attributes.proofs.AdditionLaws.{each_passed}
@@ -20,8 +22,6 @@ use Rattle.attributes.specs.Records.{Slot, Kept, Room, slot_of, slot_size, entri
 use Rattle.attributes.specs.Soundness.{record_ok, slots_end, records_ok}
 use Rattle.attributes.proofs.SoundnessLaws.{good, sound_parts, plain, plain_place}
 use Rattle.attributes.specs.Stores.{slot_refusal, store_refusal}
-use Rattle.attributes.specs.declared.Outcome.{Outcome}
-use Rattle.attributes.specs.declared.Outcome.TheVariants.{Accepted, Refused}
 use Rattle.attributes.specs.declared.Record.{Record}
 use Rattle.answers.specs.View.{View, view, view_at, Writing, UpTo, NoWrite, may_write, unwritable, writing_of}
 use Rattle.answers.specs.Replies.{Says, Packet, Silence, Effect, Nothing, Stores, Reply, doing, only, error_packet, error, writing, write, keep, nth, served, row_reply, request, silent, commanded, command, reply_to, mtu_ok, link_ok}
@@ -128,14 +128,14 @@ write_effect vs h d =
     (λ (v : View). allows_by (length d) v.writing) (error 0x12 h 0x01) false vs (λ v q. writing_effect h d v.writing) refl
 
 -- What the link may write, the table takes: no fixed attribute of a sound table is writable.
-taken : (n : ℕ) (s : Slot) (w c : Bool) → plain s w ≡ true → ((w && c) && leb n (slot_size s)) ≡ true → slot_refusal n s ≡ Accepted
+taken : (n : ℕ) (s : Slot) (w c : Bool) → plain s w ≡ true → ((w && c) && leb n (slot_size s)) ≡ true → slot_refusal n s ≡ Ok tt
 taken n s false c p e = impossible (cc)
 taken n s true false p e = impossible (cc)
 taken n Kept true true p e = impossible (cc)
 taken n (Room c) true true p e = rw e
 
 allowed : (enc : Bool) (h : ℕ) (d : List ℕ) (fl ll last at : ℕ) (fixed live : List ℕ) (rs : List Record) → records_ok fl ll last at rs ≡ true
-    → writable_at enc (h, d) (map (item fixed live) rs) ≡ true → store_refusal h (length d) (map (item fixed live) rs) ≡ Accepted
+    → writable_at enc (h, d) (map (item fixed live) rs) ≡ true → store_refusal h (length d) (map (item fixed live) rs) ≡ Ok tt
 allowed enc h d fl ll last at fixed live [] o e = impossible (cc)
 allowed enc h d fl ll last at fixed live (r ∷ rs) o e =
     let g = both (record_ok fl ll last at r) _ o in
@@ -145,9 +145,9 @@ allowed enc h d fl ll last at fixed live (r ∷ rs) o e =
   where
     by : (b : Bool)
         → pick b (may_write enc (item fixed live r) && leb (length d) (slot_size (slot_of r.place))) (writable_at enc (h, d) (map (item fixed live) rs)) ≡ true
-        → (writable_at enc (h, d) (map (item fixed live) rs) ≡ true → store_refusal h (length d) (map (item fixed live) rs) ≡ Accepted)
-        → ((may_write enc (item fixed live r) && leb (length d) (slot_size (slot_of r.place))) ≡ true → slot_refusal (length d) (slot_of r.place) ≡ Accepted)
-        → pick b (slot_refusal (length d) (slot_of r.place)) (store_refusal h (length d) (map (item fixed live) rs)) ≡ Accepted
+        → (writable_at enc (h, d) (map (item fixed live) rs) ≡ true → store_refusal h (length d) (map (item fixed live) rs) ≡ Ok tt)
+        → ((may_write enc (item fixed live r) && leb (length d) (slot_size (slot_of r.place))) ≡ true → slot_refusal (length d) (slot_of r.place) ≡ Ok tt)
+        → pick b (slot_refusal (length d) (slot_of r.place)) (store_refusal h (length d) (map (item fixed live) rs)) ≡ Ok tt
     by true e f g = g e
     by false e f g = f e
 
@@ -182,18 +182,18 @@ module _ (s : State) (k : sound s ≡ true) where
   nothing_accepted x e = ap (λ (y : Effect). accepted_of y (ledger s)) e
 
   -- room for 13, where no test fails
-  roomy : (p : List ℕ) (room : ℕ) → serve_refusal s p room ≡ Accepted → 1 ≤ room
+  roomy : (p : List ℕ) (room : ℕ) → serve_refusal s p room ≡ Ok tt → 1 ≤ room
   unfolding serve_refusal link_ok mtu_ok
   roomy p room e =
       let t = each_passed (serve_tests s p room) e in
       omega (arith, leb-true 23 s.link.mtu (both (leb 23 s.link.mtu) _ t.1.0).0, leb-true s.link.mtu room t.1.1.0)
 
   module _ (p : List ℕ) (room : ℕ) where
-    request_12 : (o : Outcome) → serve_refusal s (0x12 ∷ p) room ≡ o
+    request_12 : (o : Result Unit Refusal) → serve_refusal s (0x12 ∷ p) room ≡ o
         → accepted_of (asks s (0x12 ∷ p) room) (ledger s) ≡ keep (takes_write s (0x12 ∷ p) room) (write_in (0x12 ∷ p))
     unfolding asks takes_write
-    request_12 (Refused why) e = rw e
-    request_12 Accepted e =
+    request_12 (Err why) e = rw e
+    request_12 (Ok u) e =
         rw e (by (leb (length (0x12 ∷ p)) s.link.mtu) (strict (0x12 ∷ p)) (reply_to (views s) s.link (0x12 ∷ p)) (row_12 (views s) s.link p))
       where
         by : (a c : Bool) (r : Reply) → r ≡ pick a (pick c (write (views s) (number_at 2 0 p) (drop 2 p)) (error 0x12 0 0x04)) (error 0x12 0 0x04)
@@ -203,11 +203,11 @@ module _ (s : State) (k : sound s ≡ true) where
         by true false r q = rw q (nothing_accepted _ (nothing_done (Packet (error_packet 0x12 0 0x04)) room))
         by false c r q = rw q (nothing_accepted _ (nothing_done (Packet (error_packet 0x12 0 0x04)) room))
 
-    command_52 : (o : Outcome) → serve_refusal s (0x52 ∷ p) room ≡ o
+    command_52 : (o : Result Unit Refusal) → serve_refusal s (0x52 ∷ p) room ≡ o
         → accepted_of (asks s (0x52 ∷ p) room) (ledger s) ≡ keep (takes_write s (0x52 ∷ p) room) (write_in (0x52 ∷ p))
     unfolding asks takes_write
-    command_52 (Refused why) e = rw e
-    command_52 Accepted e =
+    command_52 (Err why) e = rw e
+    command_52 (Ok u) e =
         rw e (by (leb (length (0x52 ∷ p)) s.link.mtu) (strict (0x52 ∷ p)) (reply_to (views s) s.link (0x52 ∷ p)) (row_52 (views s) s.link p))
       where
         by : (a c : Bool) (r : Reply) → r ≡ pick (c && a) (doing Silence (write (views s) (number_at 2 0 p) (drop 2 p)).effect) (only Silence)

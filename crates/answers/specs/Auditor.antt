@@ -1,16 +1,15 @@
 -- The auditor's sentence, "show that expiry cannot be taken for lot": what was written to an attribute, and what a client is told of it.
-use Rattle.std.specs.Prelude.{ℕ, ◌-◌, ◌<◌, Bool, true, false, ◌&&◌, ◌||◌, ◌≡◌, List, [], ◌∷◌, ◌++◌, map, length, take, drop, leb, eqb}
+use Rattle.std.specs.Prelude.{ℕ, ◌-◌, ◌<◌, Bool, true, false, ◌&&◌, ◌||◌, ◌≡◌, List, [], ◌∷◌, ◌++◌, map, length, take, drop, leb, eqb, Result, Ok, Err}
 use Rattle.codec.specs.Cases.{pick, lookup}
+use Rattle.codec.specs.declared.Refusal.{Refusal}
 use Rattle.primitives.specs.Numbers.{bytes_of, number_at}
-use Rattle.ble_uuid.specs.Uuids.{equal_types}
+use Rattle.ble_uuid.specs.Uuids.{own, width_of, equal_types}
 use Rattle.att.specs.Items.{items_of}
 use Rattle.att.specs.Wire.{Meaning, Read, Means, NotRead, read, strict}
 use Rattle.attributes.specs.Ledger.{Item, item_at}
 use Rattle.attributes.specs.Lists.{Each}
 use Rattle.attributes.specs.Records.{Slot, Kept, slot_size, skeleton}
 use Rattle.attributes.specs.Stores.{store_refusal}
-use Rattle.attributes.specs.declared.Outcome.{Outcome}
-use Rattle.attributes.specs.declared.Outcome.TheVariants as outcome
 use Rattle.attributes.specs.declared.Record.{Record}
 use Rattle.answers.specs.View.{View, may_read, may_write, unreadable, reading_of}
 use Rattle.answers.specs.Replies.{Effect, Nothing, Stores, Agrees, error_packet, value_packet, blob_packet, keep, outlines, group_end, end_of, holds, nth}
@@ -39,9 +38,9 @@ AsksOnly p (Agrees mtu) = Unit
 
 -- A packet's write is accepted where no test of serving fails, the packet is strict and no longer than the MTU, and the link may write
 -- the attribute, which has room for it.
-abbrev pub passes : Outcome → Bool
-passes outcome.Accepted = true
-passes (outcome.Refused why) = false
+abbrev pub passes : Result Unit Refusal → Bool
+passes (Ok u) = true
+passes (Err why) = false
 
 abbrev pub writable_at : Bool → Write → List Item → Bool
 writable_at encrypted w is = item_at w.0 (λ i. may_write encrypted i && leb (length w.1) (slot_size i.slot)) false is
@@ -172,6 +171,6 @@ dues s ns t =
 unfoldable pub due : State → Meaning → List (List ℕ)
 due s q = lookup q.opcode (dues s q.numbers q.tail) []
 
--- What the code's types say of a table: a handle is a u16, and a UUID has sixteen bytes.
+-- What the code's types say of a table: a handle is a u16, and a UUID has as many bytes as its form.
 abbrev pub Typed : State → Type 0
-Typed s = Each (λ (r : Record). (r.handle < 65536) × (length r.kind.bytes ≡ 16)) (skeleton s.table)
+Typed s = Each (λ (r : Record). (r.handle < 65536) × (length (own r.kind) ≡ width_of r.kind)) (skeleton s.table)

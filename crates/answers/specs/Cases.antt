@@ -1,17 +1,14 @@
 -- Document 01, "Bytes to try": cases 1 to 15 as one list. A case is what is tried, and what must come of it.
-use Rattle.std.specs.Prelude.{ℕ, Bool, true, false, List, [], ◌∷◌, ◌++◌, length, replicate}
+use Rattle.std.specs.Prelude.{ℕ, Bool, true, false, List, [], ◌∷◌, ◌++◌, length, replicate, Ok, Err}
 use Rattle.ble_uuid.specs.Uuids.{short}
 use Rattle.codec.specs.Refusals.{refusal_number, refusal_of}
-use Rattle.ble_uuid.specs.declared.Uuid.{Uuid}
 use Rattle.att.specs.Wire.{strict, Coded, Sent}
 use Rattle.att.specs.Items.{items_of}
-use Rattle.att.specs.Typed.{span, code, request, response, decoded, meaning_of, encoded_again}
+use Rattle.att.specs.Typed.{Parsed, span, code, request, response, decoded, meaning_of, encoded_again}
 use Rattle.att.specs.declared.Att.{Att}
 use Rattle.att.specs.declared.AttReq.TheVariants as req
 use Rattle.att.specs.declared.FindInformationUuidFormat.TheVariants.{Uuid16}
 use Rattle.att.specs.declared.AttRsp.TheVariants as rsp
-use Rattle.att.specs.declared.Parsed.{Parsed}
-use Rattle.att.specs.declared.Parsed.TheVariants as parsed
 use Rattle.attributes.specs.Additions.{blank}
 use Rattle.attributes.specs.declared.Place.{Place}
 use Rattle.attributes.specs.declared.Place.TheVariants.{Fixed, Live}
@@ -80,18 +77,18 @@ pub data Result : Type 0 where
 
 -- what `decode` answers: a typed packet, or a refusal with its number
 abbrev pub given : Parsed → Result
-given (parsed.Packet a) = Gives a
-given (parsed.Refused e) = Refuses (refusal_number (refusal_of e))
+given (Ok a) = Gives a
+given (Err e) = Refuses (refusal_number (refusal_of e))
 
-abbrev pub listed : Parsed → Uuid → List ℕ → List (List ℕ)
-listed (parsed.Packet a) u b = items_of (meaning_of a u b)
-listed (parsed.Refused e) u b = []
+abbrev pub listed : Parsed → List ℕ → List (List ℕ)
+listed (Ok a) b = items_of (meaning_of a b)
+listed (Err e) b = []
 
 abbrev pub tried : Trial → Result
-tried (Decode b) = given (decoded b).answer
+tried (Decode b) = given (decoded b)
 tried (Strict b) = IsStrict (strict b)
-tried (ListItems b) = Holds (listed (decoded b).answer (decoded b).uuid b)
-tried (Again b) = Encodes (encoded_again (decoded b).answer (decoded b).uuid b)
+tried (ListItems b) = Holds (listed (decoded b) b)
+tried (Again b) = Encodes (encoded_again (decoded b) b)
 tried (Send b) = Hears (serve till b 64).heard
 
 -- InvalidValue

@@ -1,6 +1,6 @@
 -- Demand 3 in its own words: when a link cannot tell two tills apart, and when two sequences differ only in what it may not read.
 use Rattle.std.specs.Prelude.{ℕ, Bool, true, ◌≡◌, List, [], ◌∷◌, map, length}
-use Rattle.attributes.specs.Additions.{empty_table, add_refusal, added, fresh_item, joins, layout}
+use Rattle.attributes.specs.Additions.{empty_table, add_refusal, added, table_after, fresh_item, joins, layout}
 use Rattle.attributes.specs.Ledger.{Item, value_at}
 use Rattle.attributes.specs.Records.{skeleton}
 use Rattle.attributes.specs.declared.Addition.{Addition}
@@ -23,7 +23,7 @@ pub data Event : Type 0 where
 
 unfoldable pub after_event : State → Event → State
 after_event s (Adds a) = record {
-  table = (added s.table a (length s.fixed) (length s.live)).table;
+  table = table_after s.table (added s.table a (length s.fixed) (length s.live));
   link = s.link;
   fixed = s.fixed;
   live = s.live;

@@ -1,5 +1,5 @@
 -- Document 01, "How a packet is served": the responder and the till's own store as functions of a state, and sequences of them.
-use Rattle.std.specs.Prelude.{ℕ, Bool, true, false, List, [], ◌∷◌, ◌++◌, length, leb}
+use Rattle.std.specs.Prelude.{ℕ, Bool, true, false, List, [], ◌∷◌, ◌++◌, length, leb, Result, Ok, Err}
 use Rattle.codec.specs.Cases.{pick}
 use Rattle.codec.specs.declared.Refusal.{Refusal}
 use Rattle.codec.specs.declared.Refusal.TheVariants.{InsufficientSpace, InvalidValue, BadTable, BadLink}
@@ -8,9 +8,7 @@ use Rattle.attributes.specs.Records.{entries}
 use Rattle.attributes.specs.Soundness.{sound_table}
 use Rattle.attributes.specs.Ledger.{Item, ledger_of}
 use Rattle.attributes.specs.Stores.{relengthed, written_live, stored, stored_live, own_refusal}
-use Rattle.attributes.specs.Additions.{tested}
-use Rattle.attributes.specs.declared.Outcome.{Outcome}
-use Rattle.attributes.specs.declared.Outcome.TheVariants as outcome
+use Rattle.attributes.specs.Additions.{tested, table_after}
 use Rattle.attributes.specs.declared.Table.{Table}
 use Rattle.answers.specs.View.{View, views_of}
 use Rattle.answers.specs.Replies.{Says, Packet, Silence, Effect, Nothing, Stores, Agrees, error_packet, reply_to, link_ok}
@@ -100,17 +98,17 @@ serve_tests s p room =
     ∷ (leb 1 (length p), InvalidValue)
     ∷ []
 
-unfoldable pub serve_refusal : State → List ℕ → ℕ → Outcome
+unfoldable pub serve_refusal : State → List ℕ → ℕ → Result Unit Refusal
 serve_refusal s p room = tested (serve_tests s p room)
 
 -- What the device hears of a packet, and what the packet asks for: a refusal asks for nothing.
-abbrev pub heard_by : Outcome → Heard → Heard
-heard_by outcome.Accepted h = h
-heard_by (outcome.Refused why) h = Refused why
+abbrev pub heard_by : Result Unit Refusal → Heard → Heard
+heard_by (Ok u) h = h
+heard_by (Err why) h = Refused why
 
-abbrev pub effect_by : Outcome → Effect → Effect
-effect_by outcome.Accepted e = e
-effect_by (outcome.Refused why) e = Nothing
+abbrev pub effect_by : Result Unit Refusal → Effect → Effect
+effect_by (Ok u) e = e
+effect_by (Err why) e = Nothing
 
 unfoldable pub answered : State → List ℕ → ℕ → Heard
 answered s p room = heard_by (serve_refusal s p room) (spoken (reply_to (views s) s.link p).says (first p) room)
@@ -123,12 +121,12 @@ unfoldable pub serve : State → List ℕ → ℕ → Turn
 serve s p room = serving (answered s p room) (changed s (asks s p room))
 
 -- the till's own store: its refusal, and the state after it
-unfoldable pub own_outcome : State → ℕ → List ℕ → Outcome
+unfoldable pub own_outcome : State → ℕ → List ℕ → Result Unit Refusal
 own_outcome s h v = own_refusal s.table h (length v) s.fixed s.live
 
 unfoldable pub own_store : State → ℕ → List ℕ → State
 own_store s h v = record {
-  table = (stored s.table h v s.fixed s.live).table;
+  table = table_after s.table (stored s.table h v s.fixed s.live);
   link = s.link;
   fixed = s.fixed;
   live = stored_live s.table h v s.fixed s.live;
