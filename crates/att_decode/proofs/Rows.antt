@@ -1,10 +1,9 @@
 -- Decoding by the first byte: nothing is refused, and so is an opcode of no row. How many bytes there are behind the fixed fields.
-use Prim.Native.Nat.{ℕ, ◌+◌, ◌-◌, ◌<◌}
-use mathlib.Core.Path.{◌≡◌, refl, ap, ◌∙◌}
-use mathlib.Core.List.{List, [], ◌∷◌}
-use native.Mathlib.Omega.{arith}
-use lib.ListN.{length, drop, get_or, length-drop}
-use Rattle.primitives.specs.Numbers.{number_at}
+use Rattle.std.proofs.Common.{ℕ, ◌-◌, ◌<◌, ◌≡◌, refl, ap, ◌∙◌, ◌⊎◌, inl, inr, List, [], ◌∷◌, arith, length, take, drop, get_or, length-drop}
+use Rattle.codec.specs.BufferLaws.{to_the_end}
+use Rattle.ble_uuid.specs.Uuids.{sliced}
+use Rattle.ble_uuid.specs.UuidsLaws.{sliced_short, sliced_long}
+use Rattle.att_decode.specs.Tests.{carried}
 use Rattle.cursor.specs.Reading.{rest}
 use Rattle.cursor.proofs.ReadingLaws.{rest_drop}
 use Rattle.codec.specs.Cases.{None}
@@ -32,6 +31,11 @@ rest_length k p d e = ap length (e ∙ rest_drop k p) ∙ length-drop k p
 pub minus_zero : (n : ℕ) → n - 0 ≡ n
 minus_zero n = omega arith
 
--- 0C: the offset stands behind the handle
-pub offset_at : (p : List ℕ) (next offset : ℕ) → next ≡ 0 + 2 → offset ≡ number_at 2 next p → offset ≡ number_at 2 2 p
-offset_at p next offset e f = f ∙ ap (λ (at : ℕ). number_at 2 at p) e
+-- 08 and 10: a payload of these lengths has a UUID behind start and end
+pub uuid_there : (p : List ℕ) → (length p ≡ 6) ⊎ (length p ≡ 20) → sliced (take (length p - 4) (drop 4 p)) ≡ carried p
+uuid_there p (inl e) =
+    let l : length (drop 4 p) ≡ 2 = simp length-drop (omega arith) in
+    rw (to_the_end 4 p, e, l, sliced_short (drop 4 p) l)
+uuid_there p (inr e) =
+    let l : length (drop 4 p) ≡ 16 = simp length-drop (omega arith) in
+    rw (to_the_end 4 p, e, l, sliced_long (drop 4 p) l)

@@ -6,16 +6,15 @@
 // A port of src/att.rs of trouble-host 0.8.0, which was changed: see NOTICE.
 #![tactic(auto)]
 
-ghost use Rattle.std.specs.Prelude.{◌≡◌, [], ◌∷◌};
-ghost use Rattle.att.specs.Wire.{Rest, AUuid, Items, first, by_format};
+ghost use Rattle.std.specs.Prelude.{◌≡◌, ◌++◌, [], ◌∷◌};
+ghost use Rattle.att.specs.Wire.{Rest, AUuid, Items, first};
 ghost use Rattle.ble_uuid.specs.Uuids.{uuid_of};
-ghost use Rattle.att.specs.Typed.{made, request, response, refusal, row_decoded, decoded};
+ghost use Rattle.att.specs.Typed.{request, response, row_decoded, decoded, uuid_in};
 ghost use Rattle.primitives.specs.Numbers.{number_at};
 ghost use Rattle.att.specs.declared.AttReq.TheVariants as req;
 ghost use Rattle.att.specs.declared.AttServer.TheVariants.{Unsolicited};
 ghost use Rattle.att.specs.declared.Att.TheVariants.{Server};
-ghost use Rattle.att.specs.declared.Parsed.TheVariants.{Packet};
-ghost use Rattle.att_decode.specs.Tests.{answered, field, field_length};
+ghost use Rattle.att_decode.specs.Tests.{answered, carried, field, field_length};
 
 use att::{
     ATT_ERROR_RSP, ATT_EXCHANGE_MTU_REQ, ATT_EXCHANGE_MTU_RSP, ATT_EXECUTE_WRITE_REQ,
@@ -24,7 +23,7 @@ use att::{
     ATT_PREPARE_WRITE_REQ, ATT_READ_BLOB_REQ, ATT_READ_BLOB_RSP, ATT_READ_BY_GROUP_TYPE_REQ,
     ATT_READ_BY_GROUP_TYPE_RSP, ATT_READ_BY_TYPE_REQ, ATT_READ_BY_TYPE_RSP, ATT_READ_MULTIPLE_REQ,
     ATT_READ_REQ, ATT_READ_RSP, ATT_WRITE_CMD, ATT_WRITE_REQ, ATT_WRITE_RSP, Att, AttCfm,
-    AttClient, AttReq, AttRsp, AttServer, AttUns, Decoded, Length, Parsed, Span,
+    AttClient, AttReq, AttRsp, AttServer, AttUns, Span,
 };
 use att_rows::{
     error_rsp, exchange_mtu_req, exchange_mtu_rsp, execute_write_req, field,
@@ -32,20 +31,20 @@ use att_rows::{
     handle_value_ntf, prepare_write_req, read_by_group_type_req, read_by_group_type_rsp,
     read_by_type_req, read_by_type_rsp, read_req, write_cmd, write_req,
 };
-use att_strict::{item_len, pair_len};
+use att_strict::item_len;
+use ble_uuid::Uuid;
 use codec::Error;
-use cursor::{ReadU16, remaining};
-use primitives::u8_at;
+use cursor::remaining;
 
 // What bytes decode to; what is no packet is refused with InvalidValue.
 #[tactic(auto, using(crate::proofs::Rows::decoded_nil))]
-pub fn decode(src: &[u8]) -> Decoded
+pub fn decode(src: &[u8]) -> Result<Att, Error>
     ensures { result ≡ decoded src.now }
 {
-    if src.len() == 0 {
-        return refused();
+    match src {
+        [op, p @ ..] => dispatch(*op, p),
+        [] => Err(Error::InvalidValue),
     }
-    dispatch(src[0], &src[1..])
 }
 
 // The bytes of a data field, as a part of the received bytes. A range that does not lie within them gives
@@ -53,36 +52,23 @@ pub fn decode(src: &[u8]) -> Decoded
 pub fn data(src: &[u8], d: Span) -> &[u8]
     ensures { result.now ≡ field d src.now }
 {
-    let at = d.at;
-    let len = d.len;
-    if src.len() < at {
-        return &src[0..0];
-    }
-    if src.len() - at < len {
-        return &src[0..0];
-    }
-    &src[at..at + len]
+    d.of(src).unwrap_or(&[])
 }
 
 // How many bytes a data field has.
-pub fn data_len(src: &[u8], d: Span) -> Length
+pub fn data_len(src: &[u8], d: Span) -> Result<usize, Error>
     ensures { result ≡ field_length d src.now }
 {
-    let at = d.at;
-    let len = d.len;
-    if src.len() < at {
-        return Length::Refused(Error::InvalidValue);
+    match d.of(src) {
+        Some(_) => Ok(d.len),
+        None => Err(Error::InvalidValue),
     }
-    if src.len() - at < len {
-        return Length::Refused(Error::InvalidValue);
-    }
-    Length::Bytes(len)
 }
 
 // Opcode by opcode: how many bytes the fixed fields have, and the reader of the row. A data field's reader is
 // handed the bytes behind the fixed fields.
 #[tactic(auto, using(crate::proofs::Rows::rest_length, crate::proofs::Rows::minus_zero), unfolding(att::specs::Typed::row_decoded, att::specs::Wire::decodes, att::specs::Wire::shape_of, att::specs::Wire::rows, att::specs::Typed::build_of, att::specs::Typed::builds))]
-fn dispatch(op: u8, p: &[u8]) -> Decoded
+fn dispatch(op: u8, p: &[u8]) -> Result<Att, Error>
     ensures { result ≡ row_decoded op p.now }
 {
     match op {
@@ -90,20 +76,20 @@ fn dispatch(op: u8, p: &[u8]) -> Decoded
         ATT_EXCHANGE_MTU_REQ => request_of(p, 2, exchange_mtu_req(p)),
         ATT_EXCHANGE_MTU_RSP => response_of(p, 2, exchange_mtu_rsp(p)),
         ATT_FIND_INFORMATION_REQ => request_of(p, 4, find_information_req(p)),
-        ATT_FIND_INFORMATION_RSP => pairs_of(p, find_information_rsp(p, remaining(1, p))),
+        ATT_FIND_INFORMATION_RSP => response_of(p, 1, find_information_rsp(p, remaining(1, p))?),
         ATT_FIND_BY_TYPE_VALUE_REQ => {
             request_of(p, 6, find_by_type_value_req(p, remaining(6, p)))
         }
         ATT_FIND_BY_TYPE_VALUE_RSP => {
             response_of(p, 0, AttRsp::FindByTypeValue { items: field(1, p) })
         }
-        ATT_READ_BY_TYPE_REQ => request_with_uuid(p, read_by_type_req(p)),
+        ATT_READ_BY_TYPE_REQ => request_of(p, 4, read_by_type_req(p, uuid_of(p)?)),
         ATT_READ_BY_TYPE_RSP => items_of(p, read_by_type_rsp(p, remaining(1, p))),
         ATT_READ_REQ => request_of(p, 2, read_req(p)),
         ATT_READ_RSP => response_of(p, 0, AttRsp::Read { data: field(1, p) }),
         ATT_READ_BLOB_REQ => read_blob_of(p),
         ATT_READ_BLOB_RSP => response_of(p, 0, AttRsp::ReadBlob { data: field(1, p) }),
-        ATT_READ_BY_GROUP_TYPE_REQ => request_with_uuid(p, read_by_group_type_req(p)),
+        ATT_READ_BY_GROUP_TYPE_REQ => request_of(p, 4, read_by_group_type_req(p, uuid_of(p)?)),
         ATT_READ_BY_GROUP_TYPE_RSP => { items_of(p, read_by_group_type_rsp(p, remaining(1, p))) }
         ATT_WRITE_REQ => request_of(p, 2, write_req(p, remaining(2, p))),
         ATT_WRITE_RSP => response_of(p, 0, AttRsp::Write),
@@ -132,103 +118,63 @@ fn dispatch(op: u8, p: &[u8]) -> Decoded
                 Att::Client(AttClient::Command(write_cmd(p, remaining(2, p)))),
             )
         }
-        _ => refused(),
+        _ => Err(Error::InvalidValue),
     }
 }
 
 // 0C through the cursor that holds its bytes: the handle, and behind it the offset.
-fn read_blob_of(p: &[u8]) -> Decoded
+fn read_blob_of(p: &[u8]) -> Result<Att, Error>
     ensures { result ≡ answered Rest [] 4 p.now (request (req.ReadBlob (number_at 2 0 p.now) (number_at 2 2 p.now))) }
 {
-    match cursor_read::field(p, 0) {
-        ReadU16::Value(handle, next) => match cursor_read::field(p, next) {
-            ReadU16::Value(offset, _) => request_of(p, 4, AttReq::ReadBlob { handle, offset }),
-            ReadU16::Refused(_) => refused(),
-        },
-        ReadU16::Refused(_) => refused(),
-    }
+    let (handle, next) = cursor_read::field(p, 0)?;
+    let (offset, _) = cursor_read::field(p, next)?;
+    request_of(p, 4, AttReq::ReadBlob { handle, offset })
 }
 
-fn request_of(p: &[u8], fixed: usize, req: AttReq) -> Decoded
+fn request_of(p: &[u8], fixed: usize, req: AttReq) -> Result<Att, Error>
     ensures { result ≡ answered Rest [] fixed p.now (request req) }
 {
     packet(p, fixed, Att::Client(AttClient::Request(req)))
 }
 
-fn response_of(p: &[u8], fixed: usize, rsp: AttRsp) -> Decoded
+fn response_of(p: &[u8], fixed: usize, rsp: AttRsp) -> Result<Att, Error>
     ensures { result ≡ answered Rest [] fixed p.now (response rsp) }
 {
     packet(p, fixed, Att::Server(AttServer::Response(rsp)))
 }
 
-fn unsolicited_of(p: &[u8], fixed: usize, uns: AttUns) -> Decoded
-    ensures { result ≡ answered Rest [] fixed p.now (Packet (Server (Unsolicited uns))) }
+fn unsolicited_of(p: &[u8], fixed: usize, uns: AttUns) -> Result<Att, Error>
+    ensures { result ≡ answered Rest [] fixed p.now (Ok (Server (Unsolicited uns))) }
 {
     packet(p, fixed, Att::Server(AttServer::Unsolicited(uns)))
 }
 
-// A packet without a UUID, whose payload has at least its fixed fields.
-fn packet(p: &[u8], fixed: usize, att: Att) -> Decoded
-    ensures { result ≡ answered Rest [] fixed p.now (Packet att) }
+// A packet whose payload has at least its fixed fields.
+fn packet(p: &[u8], fixed: usize, att: Att) -> Result<Att, Error>
+    ensures { result ≡ answered Rest [] fixed p.now (Ok att) }
 {
     if p.len() < fixed {
-        return refused();
+        return Err(Error::InvalidValue);
     }
-    Decoded {
-        answer: Parsed::Packet(att),
-        uuid: ble_uuid::no_uuid(),
-    }
+    Ok(att)
 }
 
-// 05, 09 and 11: behind a first byte that tells the length of an item, 0 and 1 being none.
-fn listed(p: &[u8], each: usize, rsp: AttRsp) -> Decoded
-    ensures { result ≡ answered (Items first 2) (each ∷ []) 1 p.now (response rsp) }
+// 09 and 11: behind a first byte that is the length of an item, 0 and 1 being none.
+fn items_of(p: &[u8], rsp: AttRsp) -> Result<Att, Error>
+    ensures { result ≡ answered (Items first 2) (number_at 1 0 p.now ∷ []) 1 p.now (response rsp) }
 {
-    if each < 2 {
-        return refused();
+    if item_len(p) < 2 {
+        return Err(Error::InvalidValue);
     }
     response_of(p, 1, rsp)
 }
 
-fn pairs_of(p: &[u8], rsp: AttRsp) -> Decoded
-    ensures { result ≡ answered (Items by_format 2) (number_at 1 0 p.now ∷ []) 1 p.now (response rsp) }
-{
-    listed(p, pair_len(u8_at(p, 0)), rsp)
-}
-
-fn items_of(p: &[u8], rsp: AttRsp) -> Decoded
-    ensures { result ≡ answered (Items first 2) (number_at 1 0 p.now ∷ []) 1 p.now (response rsp) }
-{
-    listed(p, item_len(p), rsp)
-}
-
-// 08 and 10: start, end and a UUID of 2 or 16 bytes.
-fn request_with_uuid(p: &[u8], req: AttReq) -> Decoded
-    ensures { result ≡ answered AUuid [] 4 p.now (request req) }
+// 08 and 10: behind start and end a UUID of 2 or 16 bytes.
+fn uuid_of(p: &[u8]) -> Result<Uuid, Error>
+    ensures { result ≡ carried p.now }
 {
     match p.len() {
-        6 => typed(&p[4..], req),
-        20 => typed(&p[4..], req),
-        _ => refused(),
-    }
-}
-
-fn typed(value: &[u8], req: AttReq) -> Decoded
-    ensures { result ≡ made (request req) (uuid_of value.now) }
-{
-    let sliced = ble_uuid::from_slice(value);
-    let uuid = sliced.uuid;
-    Decoded {
-        answer: Parsed::Packet(Att::Client(AttClient::Request(req))),
-        uuid,
-    }
-}
-
-fn refused() -> Decoded
-    ensures { result ≡ refusal }
-{
-    Decoded {
-        answer: Parsed::Refused(Error::InvalidValue),
-        uuid: ble_uuid::no_uuid(),
+        6 | 20 => ble_uuid::from_slice(&p[4..]),
+        _ => Err(Error::InvalidValue),
     }
 }
