@@ -2,71 +2,45 @@
 // Soundness.antt of the book has it; sizes are compared by subtraction, so no sum can wrap.
 #![tactic(auto)]
 
-ghost use Rattle.std.specs.Prelude.{◌≡◌, ◌≤◌};
-ghost use Rattle.attributes.specs.Additions.{refusing};
+ghost use Rattle.std.specs.Prelude.{◌≡◌};
 ghost use Rattle.attributes.specs.Records.{entries, slot_of, slot_size};
 ghost use Rattle.attributes.specs.Soundness.{type_ok, value_ok, space_ok, start_ok, length_ok, room_of, record_ok, sound_table};
-ghost use Rattle.table_rules.specs.Walks.{nothing_walked, walk_from, walked_table};
+ghost use Rattle.table_rules.specs.Walks.{whole_ok, walk_from, walked_table};
 
-use attributes::{Changed, Outcome, Place, Record, Room, Table};
-use ble_uuid::{Form, Uuid};
-use codec::Refusal;
+use attributes::{Place, Record, Room, Table};
+use ble_uuid::Uuid;
 
-// Whether a table is sound, and the last handle and the end of the slots of one that is; 0 and 0 beside
-// one that is not.
+// The last handle and the end of the slots of a sound table.
 #[derive(Clone, Copy)]
 pub struct Walked {
-    pub sound: bool,
     pub last: u16,
     pub used: usize,
 }
 
-pub fn walk(t: Table, fixed_len: usize, live_len: usize) -> Walked
+// What a walk over a sound table finds out; there is none over one that is not sound.
+#[tactic(auto, using(crate::proofs::WalkLaws::walked_by))]
+pub fn walk(t: Table, fixed_len: usize, live_len: usize) -> Option<Walked>
     ensures { result ≡ walked_table t fixed_len live_len }
 {
-    if 64 < t.count {
-        return unsound();
-    }
-    if 32768 < t.live_len {
-        return unsound();
-    }
-    if fixed_len != t.fixed_len {
-        return unsound();
-    }
-    if live_len != t.live_len {
-        return unsound();
+    if !whole_ok(t, fixed_len, live_len) {
+        return None;
     }
     walk_records(t, fixed_len, live_len)
 }
 
 // Whether a table is sound for lent areas of these lengths.
+#[tactic(auto, using(crate::proofs::WalkLaws::walked_sound))]
 pub fn sound_for(t: Table, fixed_len: usize, live_len: usize) -> bool
     ensures { result ≡ sound_table t fixed_len live_len }
 {
-    let walked = walk(t, fixed_len, live_len);
-    walked.sound
-}
-
-// A refusal leaves the table as it was.
-pub fn refuse(t: Table, why: Refusal) -> Changed
-    ensures { result ≡ refusing t why }
-{
-    Changed {
-        outcome: Outcome::Refused(why),
-        table: t,
-    }
+    walk(t, fixed_len, live_len).is_some()
 }
 
 // No type is a 32-bit UUID.
 pub fn type_ok(kind: Uuid) -> bool
-    ensures { result ≡ type_ok kind.form }
+    ensures { result ≡ type_ok kind }
 {
-    let form = kind.form;
-    match form {
-        Form::Uuid16 => true,
-        Form::Uuid32 => false,
-        Form::Uuid128 => true,
-    }
+    !matches!(kind, Uuid::Uuid32(_))
 }
 
 // No capacity and no fixed value is over 512 bytes; a fixed value lies inside the fixed bytes and is not
@@ -76,16 +50,7 @@ pub fn value_ok(fixed_len: usize, writable: bool, room: Room) -> bool
 {
     match room {
         Room::Fixed { at, len } => {
-            if 512 < len {
-                return false;
-            }
-            if fixed_len < at {
-                return false;
-            }
-            if fixed_len - at < len {
-                return false;
-            }
-            !writable
+            len <= 512 && at <= fixed_len && len <= fixed_len - at && !writable
         }
         Room::Live { capacity } => capacity <= 512,
     }
@@ -96,26 +61,24 @@ pub fn space_ok(live_len: usize, used: usize, room: Room) -> bool
     ensures { result ≡ space_ok live_len used room }
 {
     match room {
-        Room::Fixed { at: _, len: _ } => true,
-        Room::Live { capacity } => {
-            if live_len < used {
-                return false;
-            }
-            capacity <= live_len - used
-        }
+        Room::Fixed { .. } => true,
+        Room::Live { capacity } => used <= live_len && capacity <= live_len - used,
     }
+}
+
+// The rules of the whole table, its records apart.
+fn whole_ok(t: Table, fixed_len: usize, live_len: usize) -> bool
+    ensures { result ≡ whole_ok t fixed_len live_len }
+{
+    t.count <= 64 && t.live_len <= 32768 && fixed_len == t.fixed_len && live_len == t.live_len
 }
 
 fn start_ok(used: usize, place: Place) -> bool
     ensures { result ≡ start_ok used place }
 {
     match place {
-        Place::Fixed { at: _, len: _ } => true,
-        Place::Live {
-            at,
-            capacity: _,
-            len: _,
-        } => at == used,
+        Place::Fixed { .. } => true,
+        Place::Live { at, .. } => at == used,
     }
 }
 
@@ -123,12 +86,8 @@ fn length_ok(place: Place) -> bool
     ensures { result ≡ length_ok place }
 {
     match place {
-        Place::Fixed { at: _, len: _ } => true,
-        Place::Live {
-            at: _,
-            capacity,
-            len,
-        } => len <= capacity,
+        Place::Fixed { .. } => true,
+        Place::Live { capacity, len, .. } => len <= capacity,
     }
 }
 
@@ -137,11 +96,7 @@ fn room_of(place: Place) -> Room
 {
     match place {
         Place::Fixed { at, len } => Room::Fixed { at, len },
-        Place::Live {
-            at: _,
-            capacity,
-            len: _,
-        } => Room::Live { capacity },
+        Place::Live { capacity, .. } => Room::Live { capacity },
     }
 }
 
@@ -149,12 +104,8 @@ fn slot_size(place: Place) -> usize
     ensures { result ≡ slot_size (slot_of place) }
 {
     match place {
-        Place::Fixed { at: _, len: _ } => 0,
-        Place::Live {
-            at: _,
-            capacity,
-            len: _,
-        } => capacity,
+        Place::Fixed { .. } => 0,
+        Place::Live { capacity, .. } => capacity,
     }
 }
 
@@ -162,58 +113,27 @@ fn slot_size(place: Place) -> usize
 fn record_ok(r: Record, fixed_len: usize, live_len: usize, last: u16, used: usize) -> bool
     ensures { result ≡ record_ok fixed_len live_len last used r }
 {
-    if r.handle <= last {
-        return false;
-    }
-    let kind = r.kind;
-    if !type_ok(kind) {
-        return false;
-    }
-    let place = r.place;
-    let room = room_of(place);
-    if !value_ok(fixed_len, r.writable, room) {
-        return false;
-    }
-    if !space_ok(live_len, used, room) {
-        return false;
-    }
-    if !start_ok(used, place) {
-        return false;
-    }
-    length_ok(place)
+    let room = room_of(r.place);
+    last < r.handle
+        && type_ok(r.kind)
+        && value_ok(fixed_len, r.writable, room)
+        && space_ok(live_len, used, room)
+        && start_ok(used, r.place)
+        && length_ok(r.place)
 }
 
-fn unsound() -> Walked
-    ensures { result ≡ nothing_walked }
-{
-    Walked {
-        sound: false,
-        last: 0,
-        used: 0,
-    }
-}
-
-fn walk_records(t: Table, fixed_len: usize, live_len: usize) -> Walked
-    requires { t.count ≤ 64 }
+#[tactic(auto, using(crate::proofs::WalkLaws::walk_ends, crate::proofs::WalkLaws::slot_within))]
+fn walk_records(t: Table, fixed_len: usize, live_len: usize) -> Option<Walked>
     ensures { result ≡ walk_from fixed_len live_len 0 0 (entries t) }
 {
-    let n = t.count;
     let mut last = 0u16;
     let mut used = 0usize;
-    let mut i = 0usize;
-    while i < n {
-        let r = t.records[i];
-        if !record_ok(r, fixed_len, live_len, last, used) {
-            return unsound();
+    for r in t.entries() {
+        if !record_ok(*r, fixed_len, live_len, last, used) {
+            return None;
         }
-        let place = r.place;
         last = r.handle;
-        used += slot_size(place);
-        i += 1;
+        used += slot_size(r.place);
     }
-    Walked {
-        sound: true,
-        last,
-        used,
-    }
+    Some(Walked { last, used })
 }
