@@ -7,12 +7,113 @@
 ghost use Rattle.std.specs.Prelude.{◌≡◌, length};
 ghost use Rattle.codec.specs.Buffer.{laid_at};
 ghost use Rattle.primitives.specs.Numbers.{bytes_of};
-ghost use Rattle.cursor.specs.Position.{moving};
+ghost use Rattle.cursor.specs.Position.{left, moving};
 ghost use Rattle.cursor.specs.Reading.{rest};
-ghost use Rattle.cursor_write.specs.Writing.{truncated, split_first, split_second, writing, filled, finished};
+ghost use Rattle.cursor_write.specs.Writing.{truncated, split_first, split_second, writing, filled, finished, done, stepped};
 
 use codec::Error;
+use cursor::forward;
 use primitives::Primitive;
+
+// The lent buffer, and the position in it.
+#[derive(Drop)]
+pub struct WriteCursor<'d> {
+    pub pos: usize,
+    pub data: &'d mut [u8],
+}
+
+// Each method says whose buffer it leaves in the cursor, so that what was written is seen in the buffer lent.
+impl<'d> WriteCursor<'d> {
+    pub fn new(data: &'d mut [u8]) -> Self
+        ensures same_buffer { result.«data».ghost_name ≡ «data».entry.ghost_name }
+        ensures pos_value { result.pos ≡ 0 }
+        ensures data_value { result.«data».now ≡ «data».old }
+    {
+        WriteCursor { pos: 0, data }
+    }
+
+    pub fn reset(&mut self)
+        ensures same_buffer { self.new.«data».ghost_name ≡ self.old.«data».ghost_name }
+        ensures pos_after { self.new.pos ≡ 0 }
+        ensures data_after { self.new.«data».now ≡ self.old.«data».now }
+    {
+        self.pos = 0;
+    }
+
+    // Moves the position back to npos; it never moves it on.
+    pub fn truncate(&mut self, npos: usize)
+        ensures same_buffer { self.new.«data».ghost_name ≡ self.old.«data».ghost_name }
+        ensures pos_after { self.new.pos ≡ truncated self.old.pos npos }
+        ensures data_after { self.new.«data».now ≡ self.old.«data».now }
+    {
+        self.pos = self.pos.min(npos);
+    }
+
+    // The length of what was written so far: the position.
+    pub fn len(&self) -> usize
+        ensures { result ≡ self.now.pos }
+    {
+        self.pos
+    }
+
+    pub fn available(&self) -> usize
+        ensures { result ≡ left self.now.pos (length self.now.«data».now) }
+    {
+        cursor::available(self.pos, self.data)
+    }
+
+    // Moves the position over bytes that were written through write_buf; the bytes are only looked at.
+    pub fn commit(&mut self, n: usize) -> Result<(), Error>
+        ensures same_buffer { self.new.«data».ghost_name ≡ self.old.«data».ghost_name }
+        ensures value { result ≡ done (moving self.old.pos (length self.old.«data».now) n) }
+        ensures pos_after { self.new.pos ≡ stepped self.old.pos (moving self.old.pos (length self.old.«data».now) n) }
+        ensures data_after { self.new.«data».now ≡ self.old.«data».now }
+    {
+        self.pos = forward(self.pos, self.data.len(), n)?;
+        Ok(())
+    }
+
+    // The bytes of a number, written whole or not at all.
+    #[tactic(auto, using(primitives::specs::NumbersLaws::length_bytes))]
+    pub fn write<T: Primitive>(&mut self, v: T) -> Result<(), Error>
+        ensures same_buffer { self.new.«data».ghost_name ≡ self.old.«data».ghost_name }
+        ensures value { result ≡ done (writing self.old.pos self.old.«data».now (bytes_of T.SIZE (T.number v))) }
+        ensures pos_after { self.new.pos ≡ stepped self.old.pos (writing self.old.pos self.old.«data».now (bytes_of T.SIZE (T.number v))) }
+        ensures data_after { self.new.«data».now ≡ laid_at self.old.pos (bytes_of T.SIZE (T.number v)) self.old.«data».now }
+    {
+        let out = &mut *self.data;
+        let next = forward(self.pos, out.len(), T::SIZE)?;
+        v.encode(&mut out[self.pos..])?;
+        self.pos = next;
+        Ok(())
+    }
+
+    pub fn append(&mut self, src: &[u8]) -> Result<(), Error>
+        ensures same_buffer { self.new.«data».ghost_name ≡ self.old.«data».ghost_name }
+        ensures value { result ≡ done (writing self.old.pos self.old.«data».now src.now) }
+        ensures pos_after { self.new.pos ≡ stepped self.old.pos (writing self.old.pos self.old.«data».now src.now) }
+        ensures data_after { self.new.«data».now ≡ laid_at self.old.pos src.now self.old.«data».now }
+    {
+        let out = &mut *self.data;
+        let next = forward(self.pos, out.len(), src.len())?;
+        codec::write_bytes(src, &mut out[self.pos..])?;
+        self.pos = next;
+        Ok(())
+    }
+
+    // What was written.
+    pub fn finish(self) -> &'d mut [u8]
+        ensures { result.now ≡ finished self.entry.pos self.entry.«data».now }
+    {
+        let WriteCursor { pos, data } = self;
+        if pos <= data.len() {
+            &mut data[..pos]
+        } else {
+            &mut data[..0]
+        }
+    }
+}
+
 
 // Moves the position back to npos; it never moves it on.
 pub fn truncate(pos: usize, npos: usize) -> usize
