@@ -1,26 +1,21 @@
--- Laws of digits and bytes, in the shapes that the readers' proofs ask for.
-use Prim.Native.Nat.{ℕ, suc, ◌+◌, ◌-◌, ◌*◌, ◌/◌, ◌%◌, ◌≤◌, ◌<◌}
-use Rattle.std.specs.Prelude.{◌≡◌, refl, Bool, true, false, ◌&&◌, set, leb, ltb}
-use Rattle.std.proofs.Math.Path.{sym, ap}
-use Rattle.std.proofs.Common.{◌∙◌, arith, add-one, add-zero, mul-le-mul_left, le-div_iff_mul-le, div-lt_iff_lt-mul, length-append, length-drop, drop_of_length-le, drop-cons, take-suc, take_at, drop_at, length-take-le}
-use mathlib.Core.List.{List, [], ◌∷◌, ◌++◌, reverse, append_assoc}
-use Rattle.std.proofs.Math.ListN.{length, take, drop, get_or, replicate, length-reverse}
-use Rattle.std.proofs.lemmas.List.{length-map, set_at}
-use Rattle.std.proofs.Math.Seq.{take-length, take-append_seam}
-use Rattle.std.proofs.Math.Dec.{leb-zero}
-use borrow.Author.Tests.{lt-ltb, le-ltb, le-leb, lt-leb, eq-eqb, ne_eqb, ltb-true, leb-true, leb-false}
+-- Laws of digits and bytes.
+use Rattle.std.specs.Prelude.{ℕ, ◌+◌, ◌-◌, ◌*◌, ◌/◌, ◌%◌, ◌≤◌, ◌<◌, ◌≡◌, ◌⊎◌, refl, Bool, true, false, ◌&&◌, List, [], ◌∷◌, ◌++◌, Option, Some, None, Result, Ok, Err, reverse, length, take, drop, get_or, replicate, set, leb, ltb, eqb}
+use Rattle.std.proofs.Common.{sym, ap, ◌∙◌, arith, add-one, mul-le-mul_left, append_assoc, length-drop, drop-cons, take-suc, take_at, length-take-le}
+use Rattle.std.specs.Char.{digit_value}
+use Rattle.std.specs.Option.{SomeIff}
+use Rattle.std.proofs.lemmas.Bool.Decides.{nat_tests}
+use Rattle.std.proofs.lemmas.List.{set_at, length-set, length-map}
+use Rattle.std.proofs.Math.Seq.{take-length}
+use borrow.Author.Tests.{lt-ltb, le-ltb, le-leb, lt-leb, eq-eqb, ne_eqb, ltb-true, leb-true, eqb-true}
 use Rattle.codec.specs.CasesLaws.{impossible}
 use Rattle.codec.specs.Cases.{pick}
 use Rattle.codec.specs.Buffer.{over}
-use Rattle.text_hex.specs.Hex.{digit, values, below, pairs, without, unblanked, is_dash, hex_means, digits_mean, answered, filled, numeral, number_in, handle_of, as_handle, Meaning, none, some, type_from}
-use Rattle.text_hex.specs.Scanning.{Skipped, scanned}
-use Rattle.ble_uuid.specs.Uuids.{raw_of}
-use Rattle.ble_uuid.specs.declared.Raw.{Raw}
-use Rattle.text_hex.specs.declared.Hex.TheVariants.{Bytes, NotHex, TooLong}
-use Rattle.text_hex.specs.declared.Number.{Number}
-use Rattle.text_hex.specs.declared.Number.TheVariants.{Is, NotNumber}
-use Rattle.text_hex.specs.declared.Handle.TheVariants.{NotHandle}
-use Rattle.text_hex.specs.declared.Scan.TheVariants.{Digits, Other}
+use Rattle.text_hex.specs.Hex.{digit, digit_in, values, below, pairs, without, numeral, number_in, digits_mean, answered, filled, type_from, type_bytes, type_of, outline}
+use Rattle.ble_uuid.specs.Uuids.{sliced}
+use Rattle.codec.specs.declared.Error.TheVariants.{InvalidValue}
+use Rattle.text_hex.specs.declared.HexError.{HexError}
+use Rattle.text_hex.specs.declared.HexError.TheVariants.{NotHex, TooLong}
+use Rattle.text_hex.specs.Scanning.{scanned}
 
 -- the value of a character, by the range that it stands in
 module _ (c : ℕ) where
@@ -32,101 +27,24 @@ module _ (c : ℕ) where
   unfolding digit
   digit_upper h k = rw (le-leb 48 c (omega arith), le-ltb c 58 (omega arith), le-leb 65 c h, lt-ltb c 71 k)
 
-  pub digit_lower : 97 ≤ c → c < 103 → digit c ≡ c - 87
+  -- it is the value that the library gives, where that is below 16
+  digit_library : (digit c ≡ digit_value c) ⊎ ((digit c ≡ 16) × (16 ≤ digit_value c))
   unfolding digit
-  digit_lower h k =
-      rw (le-leb 48 c (omega arith), le-ltb c 58 (omega arith), le-leb 65 c (omega arith), le-ltb c 71 (omega arith), le-leb 97 c h, lt-ltb c 103 k)
+  digit_library = grind (arith, nat_tests)
 
-  pub digit_first : c < 48 → digit c ≡ 16
-  unfolding digit
-  digit_first h = rw (lt-leb 48 c h, lt-leb 65 c (omega arith), lt-leb 97 c (omega arith))
+  digit_inside : (base : ℕ) → digit c < base → digit_in base c ≡ Some (digit c)
+  digit_inside base h = rw (lt-ltb (digit c) base h)
 
-  pub digit_second : 58 ≤ c → c < 65 → digit c ≡ 16
-  unfolding digit
-  digit_second h k = rw (le-leb 48 c (omega arith), le-ltb c 58 h, lt-leb 65 c k, lt-leb 97 c (omega arith))
+  digit_outside : (base : ℕ) → base ≤ digit c → digit_in base c ≡ None
+  digit_outside base h = rw (le-ltb (digit c) base h)
 
-  pub digit_third : 71 ≤ c → c < 97 → digit c ≡ 16
-  unfolding digit
-  digit_third h k =
-      rw (le-leb 48 c (omega arith), le-ltb c 58 (omega arith), le-leb 65 c (omega arith), le-ltb c 71 h, lt-leb 97 c k)
-
-  pub digit_last : 103 ≤ c → digit c ≡ 16
-  unfolding digit
-  digit_last h =
-      rw (le-leb 48 c (omega arith), le-ltb c 58 (omega arith), le-leb 65 c (omega arith), le-ltb c 71 (omega arith), le-leb 97 c (omega arith), le-ltb c 103 h)
+  pub digit_of_base : (base : ℕ) (r : Option ℕ) → base ≤ 16 → SomeIff r (digit_value c < base) (digit_value c) → r ≡ digit_in base c
+  digit_of_base base None h s = grind (arith, digit_library, digit_outside)
+  digit_of_base base (Some v) h s = grind (arith, digit_library, digit_inside)
 
 -- a text's next character
 pub next_character : (text : List ℕ) (i : ℕ) → i < length text → drop i text ≡ get_or text i 0 ∷ drop (i + 1) text
 next_character text i h = rw (add-one i, drop-cons text i 0)
-
--- a text behind one character more: that character is passed over, or it is kept
-module _ (a b i : ℕ) (text : List ℕ) (h : i < length text) where
-  pub over_a : get_or text i 0 ≡ a → without a b (drop (i + 1) text) ≡ without a b (drop i text)
-  unfolding without
-  over_a e = rw (next_character text i h, eq-eqb (get_or text i 0) a e)
-
-  pub over_b : (get_or text i 0 ≡ a → ⊥) → get_or text i 0 ≡ b → without a b (drop (i + 1) text) ≡ without a b (drop i text)
-  unfolding without
-  over_b n e = rw (next_character text i h, ne_eqb (get_or text i 0) a n, eq-eqb (get_or text i 0) b e)
-
-  pub keeps : (get_or text i 0 ≡ a → ⊥) → (get_or text i 0 ≡ b → ⊥)
-      → without a b (drop i text) ≡ get_or text i 0 ∷ without a b (drop (i + 1) text)
-  unfolding without
-  keeps n m = rw (next_character text i h, ne_eqb (get_or text i 0) a n, ne_eqb (get_or text i 0) b m)
-
-pub nothing_kept : (a b : ℕ) (text : List ℕ) (from to : ℕ) → Skipped a b text from to → length text ≤ to → without a b (drop from text) ≡ []
-unfolding without
-nothing_kept a b text from to s h = sym s.same ∙ rw (drop_of_length-le text h)
-
-pub scanned_digit : (n c : ℕ) (cs ds : List ℕ) → cs ≡ c ∷ ds → digit c < 16 → scanned n cs ≡ scanned (n + 1) ds
-unfolding below
-scanned_digit n c cs ds e h =
-    let k : n + suc (length ds) ≡ n + 1 + length ds = omega arith in
-    rw (e, lt-ltb (digit c) 16 h, k)
-
-pub scanned_other : (n c : ℕ) (cs ds : List ℕ) → cs ≡ c ∷ ds → 16 ≤ digit c → scanned n cs ≡ Other
-unfolding below
-scanned_other n c cs ds e h = rw (e, le-ltb (digit c) 16 h)
-
--- one character, and then nothing or something
-pub dash_alone : (c : ℕ) → c ≡ 45 → is_dash (c ∷ []) ≡ true
-dash_alone c h = eq-eqb c 45 h
-
-pub dash_not : (c : ℕ) (cs : List ℕ) → (c ≡ 45 → ⊥) → is_dash (c ∷ cs) ≡ false
-dash_not c [] h = ne_eqb c 45 h
-dash_not c (d ∷ cs) h = refl
-
-pub scanned_none : (n i a b : ℕ) (text : List ℕ) → length text ≤ i → scanned n (without a b (drop i text)) ≡ Digits n
-unfolding without below
-scanned_none n i a b text h = rw (drop_of_length-le text h, add-zero n)
-
--- `-` alone is one kept character, `-`, with nothing kept behind it
-module _ (text : List ℕ) (i : ℕ) (s : Skipped 32 9 text 0 i) where
-  pub dash_none : length text ≤ i → is_dash (unblanked text) ≡ false
-  dash_none h = rw (nothing_kept 32 9 text 0 i s h)
-
-  pub dash_other : i < length text → (get_or text i 0 ≡ 45 → ⊥) → is_dash (unblanked text) ≡ false
-  dash_other h n = rw (sym s.same ∙ s.kept h) (dash_not (get_or text i 0) (without 32 9 (drop (i + 1) text)) n)
-
-  pub dash_more : (j : ℕ) → i < length text → Skipped 32 9 text (i + 1) j → j < length text → is_dash (unblanked text) ≡ false
-  dash_more j h t k = rw (sym s.same ∙ s.kept h, sym t.same ∙ t.kept k)
-
-  pub dash_only : (j : ℕ) → i < length text → Skipped 32 9 text (i + 1) j → length text ≤ j → get_or text i 0 ≡ 45 → is_dash (unblanked text) ≡ true
-  dash_only j h t k e = rw (sym s.same ∙ s.kept h, nothing_kept 32 9 text (i + 1) j t k) (dash_alone _ e)
-
-pub scan_digits : (ds : List ℕ) (n : ℕ) → scanned 0 ds ≡ Digits n → (below 16 (values ds) ≡ true) × (0 + length ds ≡ n)
-scan_digits ds n e = said (below 16 (values ds)) (0 + length ds) n e
-  where
-    said : (t : Bool) (k m : ℕ) → pick t (Digits k) Other ≡ Digits m → (t ≡ true) × (k ≡ m)
-    said true k m h = (refl, cc)
-    said false k m h = impossible (cc)
-
-pub scan_other : (ds : List ℕ) → scanned 0 ds ≡ Other → below 16 (values ds) ≡ false
-scan_other ds e = said (below 16 (values ds)) (0 + length ds) e
-  where
-    said : (t : Bool) (k : ℕ) → pick t (Digits k) Other ≡ Other → t ≡ false
-    said true k h = impossible (cc)
-    said false k h = refl
 
 pub below_cons : (base v : ℕ) (vs : List ℕ) → below base (v ∷ vs) ≡ true → (v < base) × (below base vs ≡ true)
 unfolding below
@@ -142,17 +60,65 @@ uncons l at x rest e =
     let d : get_or l at 0 ∷ drop (at + 1) l ≡ x ∷ rest = sym (next_character l at h) ∙ e in
     (h, (cc, cc))
 
--- how far the bytes `all` of a text are put: those before `at` stand in `out`, and those from `at` on are in the text from `i` on
-pub record Filling (a b : ℕ) (text all before out : List ℕ) (at i : ℕ) : Type 0 where
-  pub inside : i ≤ length text
+-- how far the bytes `all` of a text are put: those before `at` stand in `out`, and those from `at` on are in what is left of it
+pub record Filling (passed left all before out : List ℕ) (at : ℕ) : Type 0 where
   pub long : length out ≡ length before
-  pub room : at ≤ length all
-  pub kept : i < length text → without a b (drop i text) ≡ get_or text i 0 ∷ without a b (drop (i + 1) text)
-  pub good : below 16 (values (without a b (drop i text))) ≡ true
-  pub rest : pairs (values (without a b (drop i text))) ≡ drop at all
+  pub room : length all ≤ length before
+  pub inside : at ≤ length all
+  pub good : below 16 (values (without passed left)) ≡ true
+  pub rest : pairs (values (without passed left)) ≡ drop at all
   pub put : out ≡ take at all ++ drop at before
 
--- the next two digits of such a text, and the byte that they are
+pub pairs_length : (vs : List ℕ) → length (pairs vs) ≡ length vs / 2
+unfolding pairs
+pairs_length [] = refl
+pairs_length (h ∷ []) = refl
+pairs_length (h ∷ l ∷ vs) = omega (arith, pairs_length vs)
+
+-- a number behind what was read of it
+abbrev pub numbered : ℕ → ℕ → ℕ → List ℕ → Option ℕ
+numbered base most sofar vs = pick (below base vs && leb (numeral base sofar vs) most) (Some (numeral base sofar vs)) None
+
+pub number_starts : (base most : ℕ) (word : List ℕ) → 0 < length word → number_in base most word ≡ numbered base most 0 (values word)
+unfolding number_in
+number_starts base most word h = rw (lt-ltb 0 (length word) h)
+
+pub number_empty : (base most : ℕ) (word : List ℕ) → length word ≡ 0 → None ≡ number_in base most word
+unfolding number_in
+number_empty base most word h = rw (le-ltb 0 (length word) (omega arith))
+
+pub numeral_grows : (base sofar : ℕ) (vs : List ℕ) → 1 ≤ base → sofar ≤ numeral base sofar vs
+unfolding numeral
+numeral_grows base sofar [] h = omega arith
+numeral_grows base sofar (v ∷ vs) h = omega (arith, numeral_grows base (sofar * base + v) vs h, mul-le-mul_left sofar h)
+
+-- a digit more is too much where the number passes its limit
+pub number_over : (base most sofar i : ℕ) (word : List ℕ) → i < length word → 1 ≤ base → most < sofar * base + digit (get_or word i 0)
+    → numbered base most sofar (values (drop i word)) ≡ None
+unfolding below numeral
+number_over base most sofar i word h b o =
+    rw (ap values (next_character word i h))
+    (over_most (ltb (digit (get_or word i 0)) base) (below base (values (drop (i + 1) word))) _
+    (omega (arith, numeral_grows base (sofar * base + digit (get_or word i 0)) (values (drop (i + 1) word)) b)))
+  where
+    over_most : (t u : Bool) (n : ℕ) → most < n → pick (pick t u false && leb n most) (Some n) None ≡ None
+    over_most true true n p = rw (lt-leb n most p)
+    over_most true false n p = refl
+    over_most false u n p = refl
+
+pub number_bounded : (base most : ℕ) (word : List ℕ) (n : ℕ) → Some n ≡ number_in base most word → n ≤ most
+unfolding number_in
+number_bounded base most word n e = bounded (ltb 0 (length word) && below base (values word)) (numeral base 0 (values word)) e
+  where
+    bounded : (t : Bool) (m : ℕ) → Some n ≡ pick (t && leb m most) (Some m) None → n ≤ most
+    bounded true m p = tested (leb m most) refl p
+      where
+        tested : (u : Bool) → leb m most ≡ u → Some n ≡ pick u (Some m) None → n ≤ most
+        tested true q r = let s : m ≡ n = cc in omega (arith, leb-true m most q)
+        tested false q r = impossible (cc)
+    bounded false m p = impossible (cc)
+
+-- the next two digits of a text, and the byte that they are
 pub record Two (c d at : ℕ) (cs all : List ℕ) : Type 0 where
   pub upper : digit c < 16
   pub lower : digit d < 16
@@ -169,213 +135,112 @@ two c d at cs all g r =
     let u = uncons all at (digit c * 16 + digit d) (pairs (values cs)) (sym r) in
     record { upper = x.0; lower = y.0; good = y.1; inside = u.0; here = u.1.0; rest = sym u.1.1 }
 
-module _ (a b at i : ℕ) (text all before out : List ℕ) (f : Filling a b text all before out at i) (h : i < length text) (j : ℕ) (s : Skipped a b text (i + 1) j) where
-  pub next_two : j < length text → Two (get_or text i 0) (get_or text j 0) at (without a b (drop (j + 1) text)) all
-  next_two k =
-      let e : without a b (drop i text) ≡ get_or text i 0 ∷ get_or text j 0 ∷ without a b (drop (j + 1) text) =
-      f.kept h ∙ ap (λ (l : List ℕ). get_or text i 0 ∷ l) (sym s.same ∙ s.kept k) in
-      two (get_or text i 0) (get_or text j 0) at (without a b (drop (j + 1) text)) all
-      (sym (ap (λ (l : List ℕ). below 16 (values l)) e) ∙ f.good)
-      (sym (ap (λ (l : List ℕ). pairs (values l)) e) ∙ f.rest)
+module _ (passed left all before out : List ℕ) (at : ℕ) (f : Filling passed left all before out at) where
+  pub next_two : (c d : ℕ) (l m : List ℕ) → without passed left ≡ c ∷ without passed l → without passed l ≡ d ∷ without passed m
+      → Two c d at (without passed m) all
+  next_two c d l m p q =
+      let e : without passed left ≡ c ∷ d ∷ without passed m = rw p (ap (λ (k : List ℕ). c ∷ k) q) in
+      two c d at (without passed m) all
+      (sym (ap (λ (k : List ℕ). below 16 (values k)) e) ∙ f.good)
+      (sym (ap (λ (k : List ℕ). pairs (values k)) e) ∙ f.rest)
 
-  pub odd_one : length text ≤ j → drop at all ≡ []
+  -- a turn's store takes the first bytes of `all` to one more
+  pub one_more : (c d v : ℕ) (m : List ℕ) → Two c d at (without passed m) all → v ≡ digit c * 16 + digit d → Filling passed m all before (set out at v) (at + 1)
+  one_more c d v m w e =
+      let k : at < length before = omega (arith, w.inside, f.room) in
+      let i : at < length all = w.inside in
+      record {
+        long = rw (length-set out at v) f.long;
+        room = f.room;
+        inside = omega (arith, w.inside);
+        good = w.good;
+        rest = w.rest;
+        put =
+            rw (f.put, e, sym w.here, add-one at, drop-cons before at 0, take-suc all at 0, append_assoc)
+            (set_at (take at all) _ _ _ at (length-take-le at all (omega arith)));
+      }
+
+  all_put : drop at all ≡ [] → out ≡ over all before
+  all_put e =
+      let n : at ≡ length all = omega (arith, length-drop at all, ap length e, f.inside) in
+      f.put ∙ rw (n, take-length)
+
+  -- no digit is left, or one alone, which is no byte
+  pub none_left : without passed left ≡ [] → out ≡ over all before
   unfolding pairs
-  odd_one k =
-      let e : without a b (drop i text) ≡ get_or text i 0 ∷ [] =
-      f.kept h ∙ ap (λ (l : List ℕ). get_or text i 0 ∷ l) (nothing_kept a b text (i + 1) j s k) in
-      sym f.rest ∙ ap (λ (l : List ℕ). pairs (values l)) e
+  none_left e = all_put (sym f.rest ∙ ap (λ (k : List ℕ). pairs (values k)) e)
 
-pub none_left : (a b at i : ℕ) (text all before out : List ℕ) → Filling a b text all before out at i → length text ≤ i → drop at all ≡ []
-unfolding pairs without
-none_left a b at i text all before out f h = sym f.rest ∙ rw (drop_of_length-le text h)
+  pub odd_one : (c : ℕ) (l : List ℕ) → without passed left ≡ c ∷ without passed l → without passed l ≡ [] → out ≡ over all before
+  unfolding pairs
+  odd_one c l p q = all_put (sym f.rest ∙ ap (λ (k : List ℕ). pairs (values k)) (p ∙ ap (λ (k : List ℕ). c ∷ k) q))
 
-pub all_put : (all before out : List ℕ) (at : ℕ) → at ≤ length all → drop at all ≡ [] → out ≡ take at all ++ drop at before → out ≡ over all before
-all_put all before out at h e o =
-    let n : at ≡ length all = omega (arith, length-drop at all, ap length e) in
-    o ∙ rw (n, take-length)
-
--- a turn's store takes the first bytes of `all` to one more
-pub one_more : (all before out : List ℕ) (at x : ℕ) → out ≡ take at all ++ drop at before → at < length all → at < length before → get_or all at 0 ≡ x
-    → set out at x ≡ take (at + 1) all ++ drop (at + 1) before
-one_more all before out at x o h k e =
-    rw (o, sym e, add-one at, drop-cons before at 0, take-suc all at 0, append_assoc) (set_at (take at all) _ _ _ at (length-take-le at all (omega arith)))
-
-pub pairs_length : (vs : List ℕ) → length (pairs vs) ≡ length vs / 2
-unfolding pairs
-pairs_length [] = refl
-pairs_length (h ∷ []) = refl
-pairs_length (h ∷ l ∷ vs) = omega (arith, pairs_length vs)
-
--- the answers for digits, each with what the buffer then holds; `n` is how many characters were counted as digits
-module _ (ds out : List ℕ) where
-  pub digits_other : scanned 0 ds ≡ Other → (NotHex ≡ answered (digits_mean (values ds)) (length out)) × (out ≡ filled (digits_mean (values ds)) out)
-  digits_other e = rw (scan_other ds e) (refl, refl)
-
-  module _ (n : ℕ) (e : scanned 0 ds ≡ Digits n) where
-    count : length (values ds) ≡ n
-    count = omega (arith, length-map ds digit, (scan_digits ds n e).1)
-
-    pub digits_odd : (n % 2 ≡ 0 → ⊥) → (NotHex ≡ answered (digits_mean (values ds)) (length out)) × (out ≡ filled (digits_mean (values ds)) out)
-    digits_odd h = rw ((scan_digits ds n e).0, count, ne_eqb (n % 2) 0 h) (refl, refl)
-
-    pub digits_long : n % 2 ≡ 0 → length out < n / 2 → (TooLong ≡ answered (digits_mean (values ds)) (length out)) × (out ≡ filled (digits_mean (values ds)) out)
-    digits_long h k =
-        rw ((scan_digits ds n e).0, count, eq-eqb (n % 2) 0 h, pairs_length (values ds), count, lt-leb (n / 2) (length out) k) (refl, refl)
-
-    pub digits_fit : n / 2 ≤ length out → length (pairs (values ds)) ≤ length out
-    digits_fit h = omega (arith, pairs_length (values ds), count)
-
-    pub digits_put : n % 2 ≡ 0 → n / 2 ≤ length out → (m : List ℕ) → m ≡ over (pairs (values ds)) out
-        → (Bytes (n / 2) ≡ answered (digits_mean (values ds)) (length out)) × (m ≡ filled (digits_mean (values ds)) out)
-    digits_put h k m w =
-        let l : n / 2 ≡ length (pairs (values ds)) = omega (arith, pairs_length (values ds), count) in
-        rw ((scan_digits ds n e).0, count, eq-eqb (n % 2) 0 h, le-leb (length (pairs (values ds))) (length out) (digits_fit k)) (ap Bytes l, w)
-
--- the two ways to read a HEX
-module _ (text out : List ℕ) where
-  pub hex_dash : is_dash (unblanked text) ≡ true → (Bytes 0 ≡ answered (hex_means text) (length out)) × (out ≡ filled (hex_means text) out)
-  unfolding hex_means
-  hex_dash e = rw (e, leb-zero (length out)) (refl, refl)
-
-  pub hex_digits : is_dash (unblanked text) ≡ false → hex_means text ≡ digits_mean (values (unblanked text))
-  unfolding hex_means
-  hex_digits e = rw e
-
--- a number behind what was read of it
-abbrev pub numbered : ℕ → ℕ → ℕ → List ℕ → Number
-numbered base most sofar vs = pick (below base vs && leb (numeral base sofar vs) most) (Is (numeral base sofar vs)) NotNumber
-
-pub number_starts : (base most : ℕ) (word : List ℕ) → 0 < length word → number_in base most word ≡ numbered base most 0 (values word)
-unfolding number_in
-number_starts base most word h = rw (lt-ltb 0 (length word) h)
-
-pub number_empty : (base most : ℕ) (word : List ℕ) → length word ≡ 0 → NotNumber ≡ number_in base most word
-unfolding number_in
-number_empty base most word h = rw (le-ltb 0 (length word) (omega arith))
-
-pub numeral_grows : (base sofar : ℕ) (vs : List ℕ) → 1 ≤ base → sofar ≤ numeral base sofar vs
-unfolding numeral
-numeral_grows base sofar [] h = omega arith
-numeral_grows base sofar (v ∷ vs) h = omega (arith, numeral_grows base (sofar * base + v) vs h, mul-le-mul_left sofar h)
-
-module _ (base most sofar i : ℕ) (word : List ℕ) (h : i < length word) where
-  next_value : values (drop i word) ≡ digit (get_or word i 0) ∷ values (drop (i + 1) word)
-  next_value = ap values (next_character word i h)
-
-  pub number_digit : digit (get_or word i 0) < base
-      → numbered base most sofar (values (drop i word)) ≡ numbered base most (sofar * base + digit (get_or word i 0)) (values (drop (i + 1) word))
-  unfolding below numeral
-  number_digit k = rw (next_value, lt-ltb (digit (get_or word i 0)) base k)
-
-  pub number_other : base ≤ digit (get_or word i 0) → numbered base most sofar (values (drop i word)) ≡ NotNumber
-  unfolding below
-  number_other k = rw (next_value, le-ltb (digit (get_or word i 0)) base k)
-
-  pub number_over : 1 ≤ base → digit (get_or word i 0) < base → most < sofar * base + digit (get_or word i 0)
-      → numbered base most sofar (values (drop i word)) ≡ NotNumber
-  number_over b k o =
-      number_digit k
-      ∙ over_most (below base (values (drop (i + 1) word))) _
-      (omega (arith, numeral_grows base (sofar * base + digit (get_or word i 0)) (values (drop (i + 1) word)) b))
-    where
-      over_most : (t : Bool) (n : ℕ) → most < n → pick (t && leb n most) (Is n) NotNumber ≡ NotNumber
-      over_most true n p = rw (lt-leb n most p)
-      over_most false n p = refl
-
-pub number_ends : (base most sofar i : ℕ) (word : List ℕ) → length word ≤ i → sofar ≤ most → numbered base most sofar (values (drop i word)) ≡ Is sofar
-unfolding below numeral
-number_ends base most sofar i word h k = rw (drop_of_length-le word h, le-leb sofar most k)
-
--- the test before a digit more, by a division that cannot pass the limit
-pub fits_div : (base most sofar d : ℕ) → 1 ≤ base → sofar ≤ (most - d) / base → d ≤ most → sofar * base + d ≤ most
-fits_div base most sofar d b h k = omega (arith, (le-div_iff_mul-le {k = base} {x = sofar} {y = most - d} b).0 h)
-
-pub over_div : (base most sofar d : ℕ) → 1 ≤ base → (most - d) / base < sofar → most < sofar * base + d
-over_div base most sofar d b h = omega (arith, (div-lt_iff_lt-mul {k = base} {x = most - d} {y = sofar} b).0 h)
-
-pub number_bounded : (base most : ℕ) (word : List ℕ) (n : ℕ) → number_in base most word ≡ Is n → n ≤ most
-unfolding number_in
-number_bounded base most word n e = bounded (ltb 0 (length word) && below base (values word)) (numeral base 0 (values word)) e
+-- what counting the digits of a text says of it
+pub counted : (ds : List ℕ) (n : ℕ) → Some n ≡ scanned 0 ds → (below 16 (values ds) ≡ true) × (length ds ≡ n)
+counted ds n e = let s = said (below 16 (values ds)) (0 + length ds) e in (s.0, omega (arith, s.1))
   where
-    bounded : (t : Bool) (m : ℕ) → pick (t && leb m most) (Is m) NotNumber ≡ Is n → n ≤ most
-    bounded true m p = tested (leb m most) refl p
-      where
-        tested : (u : Bool) → leb m most ≡ u → pick u (Is m) NotNumber ≡ Is n → n ≤ most
-        tested true q r = let s : m ≡ n = cc in omega (arith, leb-true m most q)
-        tested false q r = impossible (cc)
-    bounded false m p = impossible (cc)
+    said : (t : Bool) (k : ℕ) → Some n ≡ pick t (Some k) None → (t ≡ true) × (k ≡ n)
+    said true k h = (refl, cc)
+    said false k h = impossible (cc)
 
+-- the answers for so many digits, each with what the buffer then holds
+module _ (ds out : List ℕ) (n : ℕ) (e : Some n ≡ scanned 0 ds) where
+  count : length (values ds) ≡ n
+  count = omega (arith, length-map ds digit, (counted ds n e).1)
+
+  pub digits_good : below 16 (values ds) ≡ true
+  digits_good = (counted ds n e).0
+
+  pub digits_odd : (n % 2 ≡ 0 → ⊥) → (Err NotHex ≡ answered (digits_mean (values ds)) (length out)) × (out ≡ filled (digits_mean (values ds)) out)
+  digits_odd h = rw ((counted ds n e).0, count, ne_eqb (n % 2) 0 h) (refl, refl)
+
+  pub digits_long : n % 2 ≡ 0 → length out < n / 2
+      → (Err TooLong ≡ answered (digits_mean (values ds)) (length out)) × (out ≡ filled (digits_mean (values ds)) out)
+  digits_long h k =
+      rw ((counted ds n e).0, count, eq-eqb (n % 2) 0 h, pairs_length (values ds), count, lt-leb (n / 2) (length out) k) (refl, refl)
+
+  pub digits_fit : n / 2 ≤ length out → length (pairs (values ds)) ≤ length out
+  digits_fit h = omega (arith, pairs_length (values ds), count)
+
+  pub digits_put : n % 2 ≡ 0 → n / 2 ≤ length out → (m : List ℕ) → m ≡ over (pairs (values ds)) out
+      → (Ok (n / 2) ≡ answered (digits_mean (values ds)) (length out)) × (m ≡ filled (digits_mean (values ds)) out)
+  digits_put h k m w =
+      let l : n / 2 ≡ length (pairs (values ds)) = omega (arith, pairs_length (values ds), count) in
+      rw ((counted ds n e).0, count, eq-eqb (n % 2) 0 h, le-leb (length (pairs (values ds))) (length out) (digits_fit k)) (ap (λ (k : ℕ). Ok k) l, w)
+
+-- what decoding into sixteen bytes answered, for a type of so many bytes
+type_other : (n : ℕ) → n ≤ 16 → (m : Option (List ℕ)) (r : Result ℕ HexError) → r ≡ answered m 16 → (r ≡ Ok n → ⊥) → type_from (Some n) m ≡ []
+type_other n s None r e h = refl
+type_other n s (Some bytes) r e h = by (eqb (length bytes) n) refl
+  where
+    by : (t : Bool) → eqb (length bytes) n ≡ t → pick t (reverse bytes) [] ≡ []
+    by true q =
+        let l : length bytes ≡ n = eqb-true (length bytes) n q in
+        absurd (h (e ∙ rw (l, le-leb n 16 s)))
+    by false q = refl
+
+type_read : (n : ℕ) (m : Option (List ℕ)) (big : List ℕ) → Ok n ≡ answered m 16 → big ≡ filled m (replicate 16 0) → reverse (take n big) ≡ type_from (Some n) m
+type_read n None big e b = impossible (cc)
+type_read n (Some bytes) big e b = by (leb (length bytes) 16) e b
+  where
+    by : (t : Bool) → Ok n ≡ pick t (Ok (length bytes)) (Err TooLong) → big ≡ pick t (over bytes (replicate 16 0)) (replicate 16 0)
+        → reverse (take n big) ≡ pick (eqb (length bytes) n) (reverse bytes) []
+    by true q o =
+        let l : length bytes ≡ n = cc in
+        rw (eq-eqb (length bytes) n l, o, take_at bytes (drop (length bytes) (replicate 16 0)) n l)
+    by false q o = impossible (cc)
+
+-- the answers for a word: its outline is none, its bytes are not as many as the outline asks for, and they are
 module _ (word : List ℕ) where
-  pub handle_length : (length word ≡ 4 → ⊥) → NotHandle ≡ handle_of word
-  unfolding handle_of
-  handle_length h = rw (ne_eqb (length word) 4 h)
+  pub no_outline : None ≡ outline word → Err InvalidValue ≡ type_of word
+  unfolding type_bytes sliced
+  no_outline e = rw (sym e) refl
 
-  pub handle_as : length word ≡ 4 → (r : Number) → number_in 16 65535 word ≡ r → as_handle r ≡ handle_of word
-  unfolding handle_of
-  handle_as h r e = rw (eq-eqb (length word) 4 h, e)
+  pub other_bytes : (n : ℕ) (r : Result ℕ HexError) → Some n ≡ outline word → n ≤ 16 → r ≡ answered (digits_mean (values (without (45 ∷ []) word))) 16
+      → (r ≡ Ok n → ⊥) → Err InvalidValue ≡ type_of word
+  unfolding type_bytes sliced
+  other_bytes n r e s a h = rw (sym e, type_other n s (digits_mean (values (without (45 ∷ []) word))) r a h) refl
 
--- a meaning is bytes, this many and at most sixteen
-abbrev Sized : Meaning → ℕ → Type 0
-Sized none k = ⊥
-Sized (some bytes) k = (length bytes ≡ k) × (length bytes ≤ 16)
-
--- what decoding into sixteen bytes answered, taken apart
-taken_apart : (m : Meaning) (k : ℕ) → answered m 16 ≡ Bytes k → Sized m k
-taken_apart none k e = impossible (cc)
-taken_apart (some bytes) k e = sized (leb (length bytes) 16) refl e
-  where
-    sized : (t : Bool) → leb (length bytes) 16 ≡ t → pick t (Bytes (length bytes)) TooLong ≡ Bytes k → (length bytes ≡ k) × (length bytes ≤ 16)
-    sized true q r = (cc, leb-true (length bytes) 16 q)
-    sized false q r = impossible (cc)
-
-module _ (n : ℕ) (m : Meaning) where
-  pub type_not : NotHex ≡ answered m 16 → raw_of [] ≡ raw_of (type_from n m)
-  type_not e = no m e
-    where
-      no : (w : Meaning) → NotHex ≡ answered w 16 → raw_of [] ≡ raw_of (type_from n w)
-      no none p = refl
-      no (some bytes) p = absurd (never (leb (length bytes) 16) p)
-        where
-          never : (t : Bool) → NotHex ≡ pick t (Bytes (length bytes)) TooLong → ⊥
-          never true q = impossible (cc)
-          never false q = impossible (cc)
-
-  pub type_long : n ≤ 16 → TooLong ≡ answered m 16 → raw_of [] ≡ raw_of (type_from n m)
-  type_long h e = no m e
-    where
-      no : (w : Meaning) → TooLong ≡ answered w 16 → raw_of [] ≡ raw_of (type_from n w)
-      no none p = refl
-      no (some bytes) p = by (leb (length bytes) 16) refl p
-        where
-          by : (t : Bool) → leb (length bytes) 16 ≡ t → TooLong ≡ pick t (Bytes (length bytes)) TooLong → raw_of [] ≡ raw_of (type_from n (some bytes))
-          by true q r = impossible (cc)
-          by false q r = rw (ne_eqb (length bytes) n (λ s. omega (arith, leb-false (length bytes) 16 q)))
-
-  pub type_other : (k : ℕ) → Bytes k ≡ answered m 16 → (k ≡ n → ⊥) → raw_of [] ≡ raw_of (type_from n m)
-  type_other k e h = no m (taken_apart m k (sym e))
-    where
-      no : (w : Meaning) → Sized w k → raw_of [] ≡ raw_of (type_from n w)
-      no none p = refl
-      no (some bytes) p = rw (ne_eqb (length bytes) n (λ s. h (sym p.0 ∙ s)))
-
-  pub type_is : (k : ℕ) → Bytes k ≡ answered m 16 → k ≡ n → (big little : List ℕ) → big ≡ filled m (replicate 16 0)
-      → little ≡ take 0 big ++ (reverse (take n big) ++ drop n big) → record { bytes = little; len = n } ≡ raw_of (type_from n m)
-  type_is k e h big little b l = is m (taken_apart m k (sym e)) b
-    where
-      is : (w : Meaning) → Sized w k → big ≡ filled w (replicate 16 0) → record { bytes = little; len = n } ≡ raw_of (type_from n w)
-      is none p q = absurd p
-      is (some bytes) p q =
-          let z : List ℕ = replicate 16 0 in
-          let o : big ≡ bytes ++ drop (length bytes) z = q ∙ rw (le-leb (length bytes) 16 p.1) in
-          let s : length bytes ≡ n = p.0 ∙ h in
-          let t : take n big ≡ bytes = rw o (take_at bytes (drop (length bytes) z) n s) in
-          let d : drop n big ≡ drop (length bytes) z = rw o (drop_at bytes (drop (length bytes) z) n s) in
-          let y : little ≡ reverse bytes ++ drop (length (reverse bytes)) z = l ∙ rw (t, d, length-reverse bytes) in
-          rw (eq-eqb (length bytes) n s, y, length-reverse bytes, ← s)
-
--- the bytes that count are those that were padded
-pub raw_own : (raw : Raw) (l : List ℕ) → raw ≡ raw_of l → take (raw.len - 0) (drop 0 raw.bytes) ≡ l
-raw_own raw l e = rw e (let z : length l - 0 ≡ length l = omega arith in rw z (take-append_seam l (drop (length l) (replicate 16 0))))
-
-pub raw_room : (raw : Raw) (l : List ℕ) → raw ≡ raw_of l → raw.len ≤ length raw.bytes
-raw_room raw l e = rw (e, length-append l (drop (length l) (replicate 16 0))) (omega arith)
+  pub same_bytes : (n : ℕ) (big : List ℕ) → Some n ≡ outline word → Ok n ≡ answered (digits_mean (values (without (45 ∷ []) word))) 16
+      → big ≡ filled (digits_mean (values (without (45 ∷ []) word))) (replicate 16 0) → reverse (take n big) ≡ type_bytes word
+  unfolding type_bytes
+  same_bytes n big e a b = rw (sym e) (type_read n (digits_mean (values (without (45 ∷ []) word))) big a b)

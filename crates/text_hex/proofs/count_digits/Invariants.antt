@@ -1,16 +1,11 @@
 -- The digits counted so far and those of the rest of the text make up the count of the whole.
-use Rattle.std.proofs.Common.{length, ◌+◌, ◌-◌, ◌≤◌, ◌<◌, ◌≡◌, ◌∷◌, drop, get_or}
+use Rattle.std.proofs.Common.{◌≤◌, ◌≡◌, drop}
 use Rattle.text_hex.specs.Hex.{without}
 use Rattle.text_hex.specs.Scanning.{scanned}
 use Rattle.text_hex.proofs.count_digits.Given as goal
 
-abbrev pub invariant-loop-i : goal.invariant-loop-i
-invariant-loop-i l = record {
-  inside : l.i ≤ length l.text;
-  few : l.n ≤ l.i;
-  kept : l.i < length l.text → without l.a l.b (drop l.i l.text) ≡ get_or l.text l.i 0 ∷ without l.a l.b (drop (l.i + 1) l.text);
-  counts : scanned 0 (without l.a l.b l.text) ≡ scanned l.n (without l.a l.b (drop l.i l.text));
+abbrev pub invariant-loop-c : goal.invariant-loop-c
+invariant-loop-c l = record {
+  few : l.n ≤ l.c-index;
+  counts : scanned l.n (without l.passed (drop l.c-index l.text)) ≡ scanned 0 (without l.passed l.text);
 }
-
-abbrev pub decreases-loop-i : goal.decreases-loop-i
-decreases-loop-i l = length l.text - l.i
