@@ -20,18 +20,13 @@ pub fn is_group(kind: &[u8]) -> bool
 pub fn group_end(table: &Table, handle: u16) -> u16
     ensures { result ≡ group_end (outlines_of table.now) handle }
 {
-    let records = table.records.get(..table.count).unwrap_or(&table.records);
-    end_among(records, handle)
+    end_among(table.entries(), handle)
 }
 
 fn opens_group(r: Record) -> bool
     ensures { result ≡ groups (own r.kind) }
 {
-    let kind = r.kind;
-    let form = kind.form;
-    let all = kind.bytes;
-    let n = ble_uuid::width(form);
-    is_group(&all[0..n])
+    is_group(r.kind.as_raw())
 }
 
 fn end_among(records: &[Record], handle: u16) -> u16

@@ -29,11 +29,7 @@ pub fn may_read(r: Record, encrypted: bool) -> Result<(), AttErrorCode>
 pub fn has_type(r: Record, kind: &[u8]) -> bool
     ensures { result ≡ equal_types (own r.kind) kind.now }
 {
-    let own = r.kind;
-    let form = own.form;
-    let all = own.bytes;
-    let n = ble_uuid::width(form);
-    ble_uuid::equal_types(&all[0..n], kind)
+    ble_uuid::equal_types(r.kind.as_raw(), kind)
 }
 
 // Whether the whole value is this one.
