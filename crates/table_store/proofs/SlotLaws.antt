@@ -1,0 +1,111 @@
+-- The till's own store, at each of its tests: what it answers, and the live bytes after it.
+use Rattle.std.specs.Prelude.{ℕ, ◌≤◌, ◌<◌, Bool, ◌≡◌, refl, List, Result, Ok, Err, Some, None, length, leb}
+use Rattle.std.proofs.Math.Bool.{true, false}
+use Rattle.std.proofs.Common.{sym, ap, ◌∙◌, arith}
+use Rattle.codec.specs.Buffer.{over_at}
+use Rattle.codec.specs.Cases.{pick}
+use Rattle.codec.specs.CasesLaws.{impossible}
+use Rattle.codec.specs.declared.Refusal.{Refusal}
+use Rattle.codec.specs.declared.Refusal.TheVariants.{UnknownHandle, TooLong, BadTable}
+use Rattle.attributes.proofs.Apart.{Ends, slots_inside}
+use Rattle.attributes.proofs.SoundnessLaws.{Sound, sound_parts}
+use Rattle.attributes.proofs.StoreLaws.{store_sets, store_lays, own_tests_lem}
+use Rattle.attributes.specs.Additions.{blank, changed_by}
+use Rattle.attributes.specs.FindLaws.{item_first, missing_gives, found_below, found_handle, found_gives}
+use Rattle.attributes.specs.Ledger.{Item, ledger_of}
+use Rattle.attributes.specs.Records.{Slot, Kept, Room, entries, slot_of, fits, start, lengthened, find_in}
+use Rattle.attributes.specs.Soundness.{sound_table}
+use Rattle.attributes.specs.Stores.{relengthed, written_live, slot_refusal, store_refusal, stored, live_by, stored_live}
+use Rattle.attributes.specs.declared.Place.{Place}
+use Rattle.attributes.specs.declared.Place.TheVariants.{Fixed, Live}
+use Rattle.attributes.specs.declared.Record.{Record}
+use Rattle.attributes.specs.declared.Table.{Table}
+use Rattle.table_store.specs.Slots.{numbered, slot_end, with_record, stored_as, stored_as_live}
+
+accepted_fits : (n : ℕ) (s : Slot) → slot_refusal n s ≡ Ok tt → fits n s ≡ true
+accepted_fits n Kept e = impossible (cc)
+accepted_fits n (Room c) e = by (leb n c) e
+  where
+    by : (b : Bool) → pick {A = Result Unit Refusal} b (Ok tt) (Err TooLong) ≡ Ok tt → b ≡ true
+    by true e = refl
+    by false e = impossible (cc)
+
+ends_there : (ll : ℕ) (p : Place) → Ends ll p → slot_end p ≤ ll
+ends_there ll (Fixed a n) k = omega arith
+ends_there ll (Live a c n) k = k
+
+module _ (t : Table) (h : ℕ) (v fixed live : List ℕ) where
+  module _ (s : sound_table t (length fixed) (length live) ≡ false) where
+    pub bad_answer : Err BadTable ≡ stored t h v fixed live
+    unfolding stored
+    bad_answer = rw (own_tests_lem t h (length v) fixed live false s)
+
+    pub bad_live : live ≡ stored_live t h v fixed live
+    unfolding stored_live
+    bad_live = rw (own_tests_lem t h (length v) fixed live false s)
+
+  module _ (s : sound_table t (length fixed) (length live) ≡ true) where
+    own_is : (o : Result Unit Refusal) → store_refusal h (length v) (ledger_of t fixed live) ≡ o
+        → (changed_by o (relengthed t h (length v)) ≡ stored t h v fixed live) × (live_by o (written_live h v (entries t) live) live ≡ stored_live t h v fixed live)
+    unfolding stored stored_live
+    own_is o e = rw (own_tests_lem t h (length v) fixed live true s, e) (refl, refl)
+
+    missing : find_in h (entries t) ≡ None → (Err UnknownHandle ≡ stored t h v fixed live) × (live ≡ stored_live t h v fixed live)
+    missing e = own_is (Err UnknownHandle)
+        (item_first fixed live h (λ (i : Item). slot_refusal (length v) i.slot) (Err UnknownHandle) (entries t)
+        ∙ missing_gives h (λ (r : Record). slot_refusal (length v) (slot_of r.place)) (Err UnknownHandle) (entries t) e)
+
+    pub missing_answer : find_in h (entries t) ≡ None → Err UnknownHandle ≡ stored t h v fixed live
+    missing_answer e = (missing e).0
+
+    pub missing_live : find_in h (entries t) ≡ None → live ≡ stored_live t h v fixed live
+    missing_live e = (missing e).1
+
+    module _ (i : ℕ) (e : find_in h (entries t) ≡ Some i) (full : length t.records ≡ 64) where
+      abbrev r : Record
+      r = numbered t i
+
+      g : Sound t (length fixed) (length live)
+      g = sound_parts t (length fixed) (length live) s
+
+      there : i < t.count
+      there = found_below h t.count i t.records blank e
+
+      within : i < length t.records
+      within = omega (arith, there, g.count, full)
+
+      pub slot_within : slot_end r.place ≤ length live
+      slot_within = ends_there (length live) r.place (slots_inside t (length fixed) (length live) blank s full i there)
+
+      refusal : store_refusal h (length v) (ledger_of t fixed live) ≡ slot_refusal (length v) (slot_of r.place)
+      refusal =
+          item_first fixed live h (λ (j : Item). slot_refusal (length v) j.slot) (Err UnknownHandle) (entries t)
+          ∙ found_gives h t.count i t.records blank e (λ (q : Record). slot_refusal (length v) (slot_of q.place)) (Err UnknownHandle)
+
+      found : (stored_as t i v ≡ stored t h v fixed live) × (stored_as_live t i v live ≡ stored_live t h v fixed live)
+      unfolding stored_as stored_as_live
+      found = by (slot_refusal (length v) (slot_of r.place)) refl
+        where
+          by : (o : Result Unit Refusal) → slot_refusal (length v) (slot_of r.place) ≡ o
+              → (stored_as t i v ≡ stored t h v fixed live) × (stored_as_live t i v live ≡ stored_live t h v fixed live)
+          by (Err why) k =
+              let x = own_is (Err why) (refusal ∙ k) in (
+                ap (λ (o : Result Unit Refusal). changed_by o (with_record t i (lengthened r (length v)))) k ∙ x.0,
+                ap (λ (o : Result Unit Refusal). live_by o (over_at (start r.place) v live) live) k ∙ x.1,
+              )
+          by (Ok u) k =
+              let x = own_is (Ok u) (refusal ∙ k) in
+              let f = accepted_fits (length v) (slot_of r.place) k in
+              let b = found_handle h t.count i t.records blank e in
+              let sets = store_sets (length fixed) (length live) h (length v) 0 0 t.count i t.records blank g.records there within b f in
+              let lays = store_lays (length fixed) (length live) h v live 0 0 t.count i t.records blank g.records there within b f in (
+                ap (λ (o : Result Unit Refusal). changed_by o (with_record t i (lengthened r (length v)))) k
+                    ∙ ap (λ (l : List Record). Ok (record { records = l; count = t.count; fixed_len = t.fixed_len; live_len = t.live_len })) (sym sets) ∙ x.0,
+                ap (λ (o : Result Unit Refusal). live_by o (over_at (start r.place) v live) live) k ∙ sym lays ∙ x.1,
+              )
+
+      pub found_answer : stored_as t i v ≡ stored t h v fixed live
+      found_answer = found.0
+
+      pub found_live : stored_as_live t i v live ≡ stored_live t h v fixed live
+      found_live = found.1
