@@ -3,10 +3,8 @@
 use Rattle.std.specs.Prelude.{ℕ, ◌+◌, ◌/◌, ◌%◌, List, [], ◌∷◌, ◌++◌, reverse, length, take, drop, replicate, leb, ltb}
 use Rattle.codec.specs.Cases.{pick}
 use Rattle.codec.specs.Buffer.{laid_at}
-use Rattle.ble_uuid.specs.Uuids.{own}
-use Rattle.ble_uuid.specs.declared.Form.{Form}
-use Rattle.ble_uuid.specs.declared.Form.TheVariants.{Uuid16, Uuid32, Uuid128}
 use Rattle.ble_uuid.specs.declared.Uuid.{Uuid}
+use Rattle.ble_uuid.specs.declared.Uuid.TheVariants.{Uuid16, Uuid32, Uuid128}
 
 -- the position behind a text that was printed at `pos`. Where it does not fit, it is the largest number, at which nothing
 -- more fits: so one test at a line's end shows whether all of the line stands there.
@@ -31,7 +29,7 @@ hex_text (b ∷ bs) = capitals (b ∷ bs)
 
 -- the usual form of a 128-bit UUID, from its sixteen bytes, the most significant first: 36 characters `-`, with the digits of
 -- 4, 2, 2, 2 and 6 bytes laid over them
-abbrev pub usual_text : List ℕ → List ℕ
+unfoldable pub usual_text : List ℕ → List ℕ
 usual_text b =
     laid_at 24 (capitals (take 6 (drop 10 b)))
     (laid_at 19 (capitals (take 2 (drop 8 b)))
@@ -39,11 +37,8 @@ usual_text b =
     (laid_at 9 (capitals (take 2 (drop 4 b)))
     (laid_at 0 (capitals (take 4 b)) (replicate 36 45)))))
 
--- TYPE, as it is printed
-abbrev pub type_by : Form → List ℕ → List ℕ
-type_by Uuid16 b = capitals b
-type_by Uuid32 b = capitals b
-type_by Uuid128 b = usual_text b
-
+-- TYPE, as it is printed: the most significant byte first
 abbrev pub type_text : Uuid → List ℕ
-type_text u = type_by u.form (reverse (own u))
+type_text (Uuid16 b) = capitals (reverse b)
+type_text (Uuid32 b) = capitals (reverse b)
+type_text (Uuid128 b) = usual_text (reverse b)

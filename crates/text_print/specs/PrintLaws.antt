@@ -1,19 +1,15 @@
 -- Laws of printing: a text behind a text, and the round trip of bytes through their digits.
-use Rattle.std.specs.Prelude.{ℕ, ◌+◌, ◌-◌, ◌*◌, ◌/◌, ◌%◌, ◌≤◌, ◌<◌, ◌≡◌, refl, length, take, drop, get_or, set, replicate}
+use Rattle.std.specs.Prelude.{ℕ, ◌+◌, ◌*◌, ◌/◌, ◌%◌, ◌≤◌, ◌<◌, ◌≡◌, refl, length, take, drop, get_or, set, replicate}
 use Rattle.std.proofs.Common.{sym, ◌∙◌, add-one, length-drop, length-take, take-append-drop, take_at, drop_at, drop-drop, take-suc, length-take-le, le-leb, lt-ltb, le-ltb}
 use Rattle.std.proofs.Math.Path.{ap}
-use mathlib.Core.List.{List, [], ◌∷◌, ◌++◌, reverse, append_assoc, append-nil}
+use mathlib.Core.List.{List, [], ◌∷◌, ◌++◌, append_assoc, append-nil}
 use native.Mathlib.Omega.{arith}
 use Rattle.std.proofs.Math.ListN.{length-append}
-use Rattle.std.proofs.lemmas.List.{length-reverse}
 use Rattle.std.proofs.Math.Seq.{take-length}
 use Rattle.std.proofs.lemmas.List.Edits.{sets-eq}
 use Rattle.std.proofs.lemmas.Bool.{lt-leb}
-use Rattle.codec.specs.Buffer.{over, over_at, laid_at}
-use Rattle.text_print.specs.Print.{placed, glyph, two, capitals, hex_text, usual_text}
-use Rattle.ble_uuid.specs.Uuids.{own, width_of}
-use Rattle.ble_uuid.specs.UuidsLaws.{width_most}
-use Rattle.ble_uuid.specs.declared.Uuid.{Uuid}
+use Rattle.codec.specs.Buffer.{over_at, laid_at}
+use Rattle.text_print.specs.Print.{placed, glyph, two, capitals, usual_text}
 
 -- a text does not fit, or it does: the answer, and what the line then holds
 pub full : (pos : ℕ) (text out : List ℕ) → length out < pos + length text
@@ -107,47 +103,11 @@ all_printed pos bs before out at i p h =
     printed pos at (capitals bs) before out (omega (arith, p.room, capitals_length bs)) (omega (arith, p.here, capitals_length bs))
     (p.put ∙ rw t)
 
--- a HEX of no bytes, and of some
-pub hex_none : (bs : List ℕ) → length bs ≡ 0 → 45 ∷ [] ≡ hex_text bs
-hex_none [] h = refl
-hex_none (b ∷ bs) h = absurd (omega arith)
-
-pub hex_some : (bs : List ℕ) → (length bs ≡ 0 → ⊥) → capitals bs ≡ hex_text bs
-hex_some [] h = absurd (h refl)
-hex_some (b ∷ bs) h = refl
-
--- what prints one text prints any equal one
-pub as_text : (pos r : ℕ) (a b out m : List ℕ) → a ≡ b → (r ≡ placed pos a out) × (m ≡ laid_at pos a out) → (r ≡ placed pos b out) × (m ≡ laid_at pos b out)
-as_text pos r a b out m e p = rw e at p
-
--- a copy of a whole text
-pub copied_over : (src dst w : List ℕ) → w ≡ take (length src) src ++ drop (length src) dst → w ≡ over src dst
-copied_over src dst w e = e ∙ rw (take-length src)
-
--- a UUID's own bytes, turned round in their array
-module _ (u : Uuid) (n : ℕ) (w : n ≡ width_of u.form) (f : length u.bytes ≡ 16) where
-  pub own_inside : n ≤ length u.bytes
-  own_inside = omega (arith, width_most u.form)
-
-  turned : length (reverse (take n u.bytes)) ≡ n
-  turned = length-reverse (take n u.bytes) ∙ length-take-le n u.bytes own_inside
-
-  module _ (big : List ℕ) (e : big ≡ take 0 u.bytes ++ (reverse (take n u.bytes) ++ drop n u.bytes)) where
-    pub turned_inside : n ≤ length big
-    turned_inside = rw (e, length-append (reverse (take n u.bytes)) (drop n u.bytes), turned) (omega arith)
-
-    pub turned_own : take (n - 0) (drop 0 big) ≡ reverse (own u)
-    turned_own =
-        let z : n - 0 ≡ n = omega arith in
-        rw (z, e) (take_at (reverse (take n u.bytes)) (drop n u.bytes) n turned ∙ ap (λ (k : ℕ). reverse (take k u.bytes)) w)
-
-    pub turned_wide : width_of u.form ≤ length (take (n - 0) (drop 0 big))
-    turned_wide = let z : n - 0 ≡ n = omega arith in rw (z, length-take-le n big turned_inside) (omega (arith, w))
-
 -- the stores of the usual form, one over the other
 pub usual_stores : (b l₁ l₂ l₃ l₄ l₅ : List ℕ) → l₁ ≡ laid_at 0 (capitals (take 4 b)) (replicate 36 45)
     → l₂ ≡ laid_at 9 (capitals (take 2 (drop 4 b))) l₁ → l₃ ≡ laid_at 14 (capitals (take 2 (drop 6 b))) l₂
     → l₄ ≡ laid_at 19 (capitals (take 2 (drop 8 b))) l₃ → l₅ ≡ laid_at 24 (capitals (take 6 (drop 10 b))) l₄ → l₅ ≡ usual_text b
+unfolding usual_text
 usual_stores b l₁ l₂ l₃ l₄ l₅ e₁ e₂ e₃ e₄ e₅ =
     e₅
     ∙ ap (laid_at 24 (capitals (take 6 (drop 10 b))))

@@ -1,8 +1,8 @@
 -- What is printed as HEX is read back as the same bytes.
-use Rattle.std.specs.Prelude.{ℕ, ◌+◌, ◌/◌, ◌%◌, ◌≤◌, ◌<◌, ◌≡◌, refl, Bool, true, false, List, [], ◌∷◌, length, ltb}
+use Rattle.std.specs.Prelude.{ℕ, ◌+◌, ◌/◌, ◌%◌, ◌≤◌, ◌<◌, ◌≡◌, refl, Bool, true, false, List, [], ◌∷◌, Some, length, ltb}
 use Rattle.std.proofs.Common.{sym, ap, ◌∙◌, arith, div-add-mod', ltb-true, ltb-false, lt-ltb, eq-eqb, ne_eqb}
 use Rattle.std.proofs.lemmas.List.{length-map}
-use Rattle.text_hex.specs.Hex.{digit, values, below, pairs, without, unblanked, is_dash, hex_means, some}
+use Rattle.text_hex.specs.Hex.{digit, values, below, pairs, without, unblanked, is_dash, hex_means}
 use Rattle.text_hex.specs.HexLaws.{digit_low, digit_upper, below_cons}
 use Rattle.text_print.specs.Print.{glyph, capitals, hex_text}
 use Rattle.text_print.specs.PrintLaws.{glyph_low, glyph_high, capitals_length}
@@ -28,7 +28,7 @@ above d = by (ltb d 10) refl
 solid : (d : ℕ) (cs : List ℕ) → unblanked (glyph d ∷ cs) ≡ glyph d ∷ unblanked cs
 unfolding without
 solid d cs =
-    rw (ne_eqb (glyph d) 32 (λ e. omega (arith, above d)), ne_eqb (glyph d) 9 (λ e. omega (arith, above d)))
+    rw (ne_eqb 32 (glyph d) (λ e. omega (arith, above d)), ne_eqb 9 (glyph d) (λ e. omega (arith, above d)))
 
 no_blanks : (bs : List ℕ) → unblanked (capitals bs) ≡ capitals bs
 unfolding capitals without
@@ -59,7 +59,7 @@ two_first : (c : ℕ) (cs : List ℕ) → is_dash (capitals (c ∷ cs)) ≡ fals
 unfolding capitals
 two_first c cs = refl
 
-pub read_printed : (bs : List ℕ) → below 256 bs ≡ true → hex_means (hex_text bs) ≡ some bs
+pub read_printed : (bs : List ℕ) → below 256 bs ≡ true → hex_means (hex_text bs) ≡ Some bs
 unfolding hex_means without
 read_printed [] h = refl
 read_printed (b ∷ bs) h =

@@ -1,28 +1,25 @@
 // Texts at a position of a lent line. Each function answers the position behind its text; where the
 // text does not fit, the line stays as it was and the answer is the largest number, at which nothing
 // more fits.
+// Kept: a position for "no room" too, and no Option. A line is built of many texts, one call behind
+// the other, and one test at its end shows whether all of it stands there.
 #![tactic(auto)]
 
 ghost use Rattle.std.specs.Prelude.{◌+◌, ◌/◌, ◌%◌, ◌≤◌, ◌<◌, ◌≡◌, [], ◌∷◌, length};
 ghost use Rattle.codec.specs.Buffer.{over_at, laid_at};
-ghost use Rattle.text_print.specs.Print.{placed, two, capitals, hex_text, usual_text, type_by, type_text};
+ghost use Rattle.text_print.specs.Print.{placed, two, capitals, hex_text, usual_text, type_text};
 ghost use Rattle.text_decimal.specs.Decimal.{decimal_text};
-ghost use Rattle.ble_uuid.specs.Uuids.{width_of};
 ghost use Rattle.text_print.specs.Print.{glyph as Print·glyph};
 
-use ble_uuid::{Form, Uuid};
+use ble_uuid::Uuid;
 
 // A fixed text.
 pub fn text(out: &mut [u8], pos: usize, bytes: &[u8]) -> usize
     ensures value { result ≡ placed pos bytes.now out.old }
     ensures out_after { out.new ≡ laid_at pos bytes.now out.old }
 {
-    let room = out.len();
-    if room < pos {
-        return 18446744073709551615;
-    }
-    if room - pos < bytes.len() {
-        return 18446744073709551615;
+    if out.len() < pos || out.len() - pos < bytes.len() {
+        return usize::MAX;
     }
     out[pos..pos + bytes.len()].copy_from_slice(bytes);
     pos + bytes.len()
@@ -33,7 +30,7 @@ fn glyph(d: u8) -> u8
     requires { d < 16 }
     ensures { result ≡ Print·glyph d }
 {
-    if d < 10 { 48 + d } else { 55 + d }
+    if d < 10 { b'0' + d } else { b'A' - 10 + d }
 }
 
 // The two digits of a byte.
@@ -47,23 +44,18 @@ fn pair(out: &mut [u8], at: usize, b: u8)
 }
 
 // The digits of bytes.
+#[tactic(auto, using(crate::specs::PrintLaws::full, crate::specs::PrintLaws::capitals_length, crate::specs::PrintLaws::nothing_printed, crate::specs::PrintLaws::printed_more, crate::specs::PrintLaws::all_printed))]
 pub fn digits(out: &mut [u8], pos: usize, bytes: &[u8]) -> usize
     ensures value { result ≡ placed pos (capitals bytes.now) out.old }
     ensures out_after { out.new ≡ laid_at pos (capitals bytes.now) out.old }
 {
-    let room = out.len();
-    if room < pos {
-        return 18446744073709551615;
-    }
-    if (room - pos) / 2 < bytes.len() {
-        return 18446744073709551615;
+    if out.len() < pos || (out.len() - pos) / 2 < bytes.len() {
+        return usize::MAX;
     }
     let mut at = pos;
-    let mut i = 0;
-    while i < bytes.len() {
-        pair(out, at, bytes[i]);
+    for b in bytes {
+        pair(out, at, *b);
         at += 2;
-        i += 1;
     }
     at
 }
@@ -73,10 +65,11 @@ pub fn hex(out: &mut [u8], pos: usize, bytes: &[u8]) -> usize
     ensures value { result ≡ placed pos (hex_text bytes.now) out.old }
     ensures out_after { out.new ≡ laid_at pos (hex_text bytes.now) out.old }
 {
-    if bytes.len() == 0 {
-        return text(out, pos, b"-");
+    if bytes.is_empty() {
+        text(out, pos, b"-")
+    } else {
+        digits(out, pos, bytes)
     }
-    digits(out, pos, bytes)
 }
 
 // A number of one byte, as 2 digits.
@@ -84,8 +77,7 @@ pub fn hex2(out: &mut [u8], pos: usize, v: u8) -> usize
     ensures value { result ≡ placed pos (capitals (v ∷ [])) out.old }
     ensures out_after { out.new ≡ laid_at pos (capitals (v ∷ [])) out.old }
 {
-    let b = [v];
-    digits(out, pos, &b)
+    digits(out, pos, &[v])
 }
 
 // A number of two bytes, as 4 digits.
@@ -93,8 +85,7 @@ pub fn hex4(out: &mut [u8], pos: usize, v: u16) -> usize
     ensures value { result ≡ placed pos (capitals (v / 256 ∷ v % 256 ∷ [])) out.old }
     ensures out_after { out.new ≡ laid_at pos (capitals (v / 256 ∷ v % 256 ∷ [])) out.old }
 {
-    let b = [(v / 256) as u8, (v % 256) as u8];
-    digits(out, pos, &b)
+    digits(out, pos, &v.to_be_bytes())
 }
 
 // A decimal number.
@@ -107,12 +98,11 @@ pub fn decimal(out: &mut [u8], pos: usize, n: u64) -> usize
     text(out, pos, &spelt[..k])
 }
 
-// The usual form of a 128-bit UUID.
-fn usual(big: &[u8]) -> [u8; 36]
-    requires { 16 ≤ length big.now }
-    ensures { result ≡ usual_text big.now }
+// The usual form of a 128-bit UUID, from its bytes, the most significant first.
+fn usual(big: [u8; 16]) -> [u8; 36]
+    ensures { result ≡ usual_text big }
 {
-    let mut line = [45u8; 36];
+    let mut line = [b'-'; 36];
     digits(&mut line, 0, &big[0..4]);
     digits(&mut line, 9, &big[4..6]);
     digits(&mut line, 14, &big[6..8]);
@@ -121,30 +111,23 @@ fn usual(big: &[u8]) -> [u8; 36]
     line
 }
 
-// A type's bytes, the most significant first, in the form that the type is printed in.
-fn spell(out: &mut [u8], pos: usize, form: Form, big: &[u8]) -> usize
-    requires { width_of form ≤ length big.now }
-    ensures value { result ≡ placed pos (type_by form big.now) out.old }
-    ensures out_after { out.new ≡ laid_at pos (type_by form big.now) out.old }
-{
-    match form {
-        Form::Uuid16 => digits(out, pos, big),
-        Form::Uuid32 => digits(out, pos, big),
-        Form::Uuid128 => {
-            let line = usual(big);
-            text(out, pos, &line)
-        }
-    }
-}
-
 // TYPE.
 pub fn type_text(out: &mut [u8], pos: usize, u: Uuid) -> usize
     ensures value { result ≡ placed pos (type_text u) out.old }
     ensures out_after { out.new ≡ laid_at pos (type_text u) out.old }
 {
-    let form = u.form;
-    let mut big = u.bytes;
-    let n = ble_uuid::width(form);
-    big[..n].reverse();
-    spell(out, pos, form, &big[0..n])
+    match u {
+        Uuid::Uuid16(mut bytes) => {
+            bytes.reverse();
+            digits(out, pos, &bytes)
+        }
+        Uuid::Uuid32(mut bytes) => {
+            bytes.reverse();
+            digits(out, pos, &bytes)
+        }
+        Uuid::Uuid128(mut bytes) => {
+            bytes.reverse();
+            text(out, pos, &usual(bytes))
+        }
+    }
 }
