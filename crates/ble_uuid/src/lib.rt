@@ -47,17 +47,52 @@ impl Eq for Uuid {
     ghost laws = { equal_equivalence };
 }
 
+impl From<u16> for Uuid {
+    ghost from_gives = { λ val u. u ≡ short val };
+
+    fn from(val: u16) -> Uuid {
+        Uuid::new_short(val)
+    }
+}
+
+impl From<u32> for Uuid {
+    ghost from_gives = { λ val u. u ≡ wide val };
+
+    fn from(val: u32) -> Uuid {
+        Uuid::Uuid32(val.to_le_bytes())
+    }
+}
+
+impl From<[u8; 16]> for Uuid {
+    ghost from_gives = { λ val u. u ≡ long val };
+
+    fn from(val: [u8; 16]) -> Uuid {
+        Uuid::new_long(val)
+    }
+}
+
+// 2, 4 or 16 bytes are a UUID.
+impl TryFrom<&[u8]> for Uuid {
+    type Error = Error;
+
+    ghost try_from_gives = { λ value r. r ≡ sliced value.now };
+
+    #[tactic(auto, unfolding(crate::specs::Uuids::sliced))]
+    fn try_from(value: &[u8]) -> Result<Uuid, Error> {
+        match value.len() {
+            2 => Ok(Uuid::Uuid16(all(value))),
+            4 => Ok(Uuid::Uuid32(all(value))),
+            16 => Ok(Uuid::Uuid128(all(value))),
+            _ => Err(Error::InvalidValue),
+        }
+    }
+}
+
 impl Uuid {
     pub fn new_short(val: u16) -> Self
         ensures { result ≡ short val }
     {
         Uuid::Uuid16(val.to_le_bytes())
-    }
-
-    pub fn from_u32(val: u32) -> Self
-        ensures { result ≡ wide val }
-    {
-        Uuid::Uuid32(val.to_le_bytes())
     }
 
     pub fn new_long(val: [u8; 16]) -> Self
@@ -135,17 +170,10 @@ pub fn no_uuid() -> Uuid
     Uuid::Uuid16([0; 2])
 }
 
-// 2, 4 or 16 bytes are a UUID.
-#[tactic(auto, unfolding(crate::specs::Uuids::sliced))]
 pub fn from_slice(value: &[u8]) -> Result<Uuid, Error>
     ensures { result ≡ sliced value.now }
 {
-    match value.len() {
-        2 => Ok(Uuid::Uuid16(all(value))),
-        4 => Ok(Uuid::Uuid32(all(value))),
-        16 => Ok(Uuid::Uuid128(all(value))),
-        _ => Err(Error::InvalidValue),
-    }
+    Uuid::try_from(value)
 }
 
 // Whether two UUIDs are equal, from their own bytes.
