@@ -20,7 +20,7 @@ use Rattle.answers.specs.Replies as book
 use Rattle.answers.specs.Replies.{Part, keep, more, search}
 use Rattle.answers.specs.View.{View}
 use Rattle.serve_collect.specs.CollectLaws.{fit_here}
-use Rattle.serve_collect.specs.Collect.{Gathered, listed, failed, Walk, fit_at, spot_for, taken_at, taken, step, fold, is_ended, found_by, shown_found, shown_on}
+use Rattle.serve_collect.specs.Collect.{Fits, FirstFits, Gathered, listed, failed, Walk, fit_at, spot_for, taken_at, taken, step, fold, is_ended, found_by, shown_found, shown_on}
 use Rattle.serve_collect.specs.declared.Failed.{Failed}
 use Rattle.serve_collect.specs.declared.Listed.{Listed}
 use Rattle.serve_collect.specs.declared.Progress.{Progress}
@@ -29,11 +29,6 @@ use Rattle.serve_collect.specs.declared.Progress.TheVariants.{Seeking, Taking, E
 -- a walk's end, as what was found and the area
 abbrev pub Ends : Walk → Gathered → List ℕ → Type 0
 Ends w x s = (found_by w.0 ≡ x) × (w.1 ≡ s)
-
-abbrev pub Fits : ℕ → Part → Type 0
-Fits room book.Skip = Unit
-Fits room (book.Take b) = length b ≤ room
-Fits room (book.Fail h code) = Unit
 
 -- Behind its end nothing is added to a list: a search that goes on there has the same answer.
 ended_walk : (room : ℕ) (x : Result Listed Failed) (s : List ℕ) (ps : List Part) → fold (step room) (Ended x, s) ps ≡ (Ended x, s)
@@ -47,6 +42,38 @@ pub ended_stays : (room : ℕ) (p : Progress) (s : List ℕ) (ps : List Part) �
 ended_stays room Seeking s ps e = impossible (cc)
 ended_stays room (Taking x) s ps e = impossible (cc)
 ended_stays room (Ended x) s ps e = ended_walk room x s ps
+
+-- Where each part fits, or where the walk has ended behind parts that do, the first item fits.
+pub each_first : (room : ℕ) (ps : List Part) → Each (Fits room) ps → FirstFits room ps
+each_first room [] a = tt
+each_first room (book.Skip ∷ ps) a = each_first room ps a.1
+each_first room (book.Take b ∷ ps) a = a.0
+each_first room (book.Fail h n ∷ ps) a = tt
+
+pub ended_first : (room : ℕ) (ps qs : List Part) (area : List ℕ) → Each (Fits room) ps → is_ended (fold (step room) (Seeking, area) ps).0 ≡ true → FirstFits room (ps ++ qs)
+ended_first room [] qs area a e = impossible (cc)
+ended_first room (book.Skip ∷ ps) qs area a e = ended_first room ps qs area a.1 e
+ended_first room (book.Take b ∷ ps) qs area a e = a.0
+ended_first room (book.Fail h n ∷ ps) qs area a e = tt
+
+pub fold_append : {A B : Type 0} (g : B → A → B) (b : B) (l m : List A) → fold g b (l ++ m) ≡ fold g (fold g b l) m
+fold_append g b [] m = refl
+fold_append g b (x ∷ l) m = fold_append g (g b x) l m
+
+-- what stands outside of a range gives nothing: neither to the walk nor to what fits
+first_more : (room : ℕ) (p : Part) (ps qs : List Part) → (FirstFits room ps → FirstFits room qs) → FirstFits room (p ∷ ps) → FirstFits room (p ∷ qs)
+first_more room book.Skip ps qs k a = k a
+first_more room (book.Take b) ps qs k a = a
+first_more room (book.Fail h n) ps qs k a = tt
+
+pub first_keep : (room : ℕ) (f : View → Part) (t : View → Bool) (vs : List View) → FirstFits room (map (λ v. pick (t v) (f v) book.Skip) vs) → FirstFits room (map f (keep t vs))
+first_keep room f t [] a = tt
+first_keep room f t (v ∷ vs) a = by (t v) (first_keep room f t vs) a
+  where
+    by : (c : Bool) → (FirstFits room (map (λ v. pick (t v) (f v) book.Skip) vs) → FirstFits room (map f (keep t vs)))
+        → FirstFits room (pick c (f v) book.Skip ∷ map (λ v. pick (t v) (f v) book.Skip) vs) → FirstFits room (map f (pick c (v ∷ keep t vs) (keep t vs)))
+    by true ih a = first_more room (f v) _ _ ih a
+    by false ih a = ih a
 
 -- what stands outside of a range gives nothing
 module _ (room : ℕ) (f : View → Part) (t : View → Bool) where
@@ -132,12 +159,12 @@ module _ (room : ℕ) (area : List ℕ) (holds : room ≤ length area) where
       ∙ ap (λ (k : ℕ). (Taking (listed (length x) k), pick (leb k (length area)) (over x area) area)) z
       ∙ rw (le-leb (length x) (length area) (omega arith))
 
-  pub search_is : (ps : List Part) → Each (Fits room) ps
+  pub search_is : (ps : List Part) → FirstFits room ps
       → Ends (fold (step room) (Seeking, area) ps) (shown_found (search room ps)) (shown_on area (search room ps))
   unfolding search
   search_is [] a = (refl, refl)
-  search_is (book.Skip ∷ ps) a = search_is ps a.1
+  search_is (book.Skip ∷ ps) a = search_is ps a
   search_is (book.Take x ∷ ps) a =
-      subst (λ (w : Walk). With (fold (step room) w ps) (length x) (x ++ joined (more (length x) (room - length x) ps))) (sym (first_at x a.0))
-      (taking (length x) x ps a.0)
+      subst (λ (w : Walk). With (fold (step room) w ps) (length x) (x ++ joined (more (length x) (room - length x) ps))) (sym (first_at x a))
+      (taking (length x) x ps a)
   search_is (book.Fail h n ∷ ps) a = ends (Err (failed h (code n))) area ps

@@ -1,6 +1,6 @@
 -- Document 01, "How a packet is served": a search a part at a time, as code goes about it. How far it is, and the bytes of the items
 -- so far. proofs/GatherLaws.antt says that this is the search of the responder's book.
-use Rattle.std.specs.Prelude.{ℕ, ◌+◌, ◌-◌, Bool, true, false, ◌&&◌, List, [], ◌∷◌, ◌++◌, length, leb, eqb, Option, Some, None, Result, Ok, Err}
+use Rattle.std.specs.Prelude.{ℕ, ◌+◌, ◌-◌, ◌≤◌, Bool, true, false, ◌&&◌, List, [], ◌∷◌, ◌++◌, length, leb, eqb, Option, Some, None, Result, Ok, Err}
 use Rattle.codec.specs.Buffer.{over, laid_at}
 use Rattle.codec.specs.Cases.{pick}
 use Rattle.primitives.specs.Numbers.{bytes_of}
@@ -69,6 +69,18 @@ step room w (book.Fail h n) = (failing h (code n) w.0, w.1)
 abbrev pub fold : {A B : Type 0} → (B → A → B) → B → List A → B
 fold g b [] = b
 fold g b (x ∷ l) = fold g (g b x) l
+
+-- A part whose item by itself fits into the room; and parts of which the first item does, if any comes before one that fails.
+abbrev pub Fits : ℕ → Part → Type 0
+Fits room book.Skip = Unit
+Fits room (book.Take b) = length b ≤ room
+Fits room (book.Fail h n) = Unit
+
+abbrev pub FirstFits : ℕ → List Part → Type 0
+FirstFits room [] = Unit
+FirstFits room (book.Skip ∷ ps) = FirstFits room ps
+FirstFits room (book.Take b ∷ ps) = length b ≤ room
+FirstFits room (book.Fail h n ∷ ps) = Unit
 
 -- whether the list has ended, so that nothing behind it counts
 abbrev pub is_ended : Progress → Bool

@@ -8,6 +8,7 @@ ghost use Rattle.primitives.specs.Numbers.{bytes_of};
 ghost use Rattle.serve_collect.specs.Collect.{head_of, fit_at, spot_for, stopped, failing, taken, is_ended, found_by};
 
 use att_error::AttErrorCode;
+use primitives::Primitive;
 
 // The items of a list: of `item_len` bytes each, and of `used` bytes together.
 #[derive(Clone, Copy)]
@@ -100,7 +101,11 @@ fn spot_for(state: Progress, len: usize, room: u8) -> Option<usize>
 {
     match state {
         Progress::Seeking => fit(0, len, room as usize),
-        Progress::Taking(list) if len == list.item_len as usize => fit(list.used, len, room as usize),
+        Progress::Taking(list) if len == list.item_len as usize => fit(
+            list.used,
+            len,
+            room as usize,
+        ),
         _ => None,
     }
 }
@@ -140,7 +145,7 @@ fn lay(head: Head, tail: &[u8], dest: &mut [u8])
     match head {
         Head::Handle(handle) => lay_one(handle, tail, dest),
         Head::Range(handle, end) => {
-            primitives::write_u16(handle, dest);
+            let _ = handle.encode(dest);
             lay_one(end, tail, &mut dest[2..]);
         }
     }
@@ -150,6 +155,6 @@ fn lay_one(number: u16, tail: &[u8], dest: &mut [u8])
     requires { 2 + length tail.now ≤ length dest.old }
     ensures { dest.new ≡ over (bytes_of 2 number ++ tail.now) dest.old }
 {
-    primitives::write_u16(number, dest);
-    codec::write_bytes(tail, &mut dest[2..]);
+    let _ = number.encode(dest);
+    let _ = codec::write_bytes(tail, &mut dest[2..]);
 }

@@ -57,10 +57,10 @@ pub fn grouped(
     if !serve_record::has_type(r, kind) {
         return None;
     }
-    Some(
-        serve_record::may_read(r, link.encrypted)
-            .map(|()| Head::Range(r.handle, serve_groups::group_end(table, r.handle))),
-    )
+    Some(serve_record::may_read(r, link.encrypted).map(|()| Head::Range(
+        r.handle,
+        serve_groups::group_end(table, r.handle),
+    )))
 }
 
 // The end that 06 gives beside a handle: the group's, or the handle itself for a type that opens no group.
