@@ -1,41 +1,36 @@
 // Document 01, "Table, link and the till's own stores": a table of attributes, adding, looking up and the
-// till's own store. The table goes in and comes back by value; the caller lends the fixed and the live bytes.
+// till's own store. The table goes in and comes back by value, so on a refusal the caller's own stands; the
+// caller lends the fixed and the live bytes.
 //
 // Any table may be handed in: one that is not sound is refused with 11, and nothing outside the lent bytes
 // is touched.
 #![tactic(auto)]
 
-ghost use Rattle.std.specs.Prelude.{◌≡◌, ◌<◌, length};
+ghost use Rattle.std.specs.Prelude.{◌≡◌, length};
 ghost use Rattle.attributes.specs.Soundness.{sound_table};
 ghost use Rattle.attributes.specs.Ledger.{lookup_refusal, looked_up};
-ghost use Rattle.attributes.specs.Additions.{empty_table, new_table, fresh_place, fresh, appended, added};
+ghost use Rattle.attributes.specs.Additions.{empty_table, new_table, fresh_place, fresh, added};
 ghost use Rattle.attributes.specs.Stores.{stored, stored_live};
 
-use attributes::{Addition, Changed, Outcome, Place, Record, Room, Sought, Table};
+use attributes::{Addition, Place, Record, Room, Table};
 use codec::Refusal;
 
-// A table with no record, for areas of these lengths. A live area over 32,768 bytes is refused, with an
-// empty table for no bytes beside it.
+// A table with no record, for areas of these lengths. A live area over 32,768 bytes is refused.
 #[tactic(auto, unfolding(attributes::specs::Additions::new_table))]
-pub fn new(fixed: &[u8], live: &[u8]) -> Changed
+pub fn new(fixed: &[u8], live: &[u8]) -> Result<Table, Refusal>
     ensures { result ≡ new_table (length fixed.now) (length live.now) }
 {
     if 32768 < live.len() {
-        return table_rules::refuse(empty(0, 0), Refusal::BadTable);
+        return Err(Refusal::BadTable);
     }
-    Changed {
-        outcome: Outcome::Accepted,
-        table: empty(fixed.len(), live.len()),
-    }
+    Ok(empty(fixed.len(), live.len()))
 }
 
 // Whether the table is sound for these lent areas.
 pub fn sound(t: Table, fixed: &[u8], live: &[u8]) -> bool
     ensures { result ≡ sound_table t (length fixed.now) (length live.now) }
 {
-    let n = fixed.len();
-    let m = live.len();
-    sound_for(t, n, m)
+    sound_for(t, fixed.len(), live.len())
 }
 
 // The same, of the areas' lengths alone: for a caller whose live bytes are lent for change.
@@ -46,37 +41,30 @@ pub fn sound_for(t: Table, fixed_len: usize, live_len: usize) -> bool
 }
 
 // An attribute more. The first of the tests 11, 3, 4, 5, 6 and 7 that fails is the refusal.
-pub fn add(t: Table, a: Addition, fixed: &[u8], live: &[u8]) -> Changed
+#[tactic(auto, unfolding(attributes::specs::Additions::added, attributes::specs::Additions::add_refusal, table_rules::specs::Walks::walked_table))]
+pub fn add(t: Table, a: Addition, fixed: &[u8], live: &[u8]) -> Result<Table, Refusal>
     ensures { result ≡ added t a (length fixed.now) (length live.now) }
 {
-    let fixed_len = fixed.len();
-    let live_len = live.len();
-    let w = table_rules::walk(t, fixed_len, live_len);
-    if !w.sound {
-        return table_rules::refuse(t, Refusal::BadTable);
-    }
+    let walked = table_rules::walk(t, fixed.len(), live.len()).ok_or(Refusal::BadTable)?;
     if 64 <= t.count {
-        return table_rules::refuse(t, Refusal::TableFull);
+        return Err(Refusal::TableFull);
     }
-    if a.handle <= w.last {
-        return table_rules::refuse(t, Refusal::BadHandle);
+    if a.handle <= walked.last {
+        return Err(Refusal::BadHandle);
     }
-    let kind = a.kind;
-    let room = a.room;
-    if !table_rules::type_ok(kind) {
-        return table_rules::refuse(t, Refusal::BadType);
+    if !table_rules::type_ok(a.kind) {
+        return Err(Refusal::BadType);
     }
-    if !table_rules::value_ok(fixed_len, a.writable, room) {
-        return table_rules::refuse(t, Refusal::BadValue);
+    if !table_rules::value_ok(fixed.len(), a.writable, a.room) {
+        return Err(Refusal::BadValue);
     }
-    if !table_rules::space_ok(live_len, w.used, room) {
-        return table_rules::refuse(t, Refusal::NoRoom);
+    if !table_rules::space_ok(live.len(), walked.used, a.room) {
+        return Err(Refusal::NoRoom);
     }
-    let r = record_for(a, w.used);
-    Changed {
-        outcome: Outcome::Accepted,
-        table: append(t, r),
-    }
+    let mut next = t;
+    next.records[t.count] = record_for(a, walked.used);
+    next.count += 1;
+    Ok(next)
 }
 
 // An attribute's value, as a part of the fixed or of the live bytes. It is empty on a refusal, which
@@ -86,26 +74,33 @@ pub fn lookup<'a>(t: Table, handle: u16, fixed: &'a [u8], live: &'a [u8]) -> &'a
     ensures { result.now ≡ looked_up t handle fixed.now live.now }
 {
     if !sound_for(t, fixed.len(), live.len()) {
-        return table_records::part(fixed, 0, 0);
+        return &[];
     }
     table_records::value_at(t, handle, fixed, live)
 }
 
-pub fn lookup_refusal(t: Table, handle: u16, fixed: &[u8], live: &[u8]) -> Outcome
+#[tactic(auto, unfolding(attributes::specs::Ledger::lookup_refusal), using(attributes::specs::FindLaws::item_first, attributes::specs::FindLaws::record_found))]
+pub fn lookup_refusal(t: Table, handle: u16, fixed: &[u8], live: &[u8]) -> Result<(), Refusal>
     ensures { result ≡ lookup_refusal t handle fixed.now live.now }
 {
     if !sound_for(t, fixed.len(), live.len()) {
-        return Outcome::Refused(Refusal::BadTable);
+        return Err(Refusal::BadTable);
     }
-    match table_records::find(t, handle) {
-        Sought::Missing => Outcome::Refused(Refusal::UnknownHandle),
-        Sought::At(_) => Outcome::Accepted,
+    match table_records::record_at(t, handle) {
+        Some(_) => Ok(()),
+        None => Err(Refusal::UnknownHandle),
     }
 }
 
 // The till's own store: value and length are set whatever the marks. The first of the tests 11, 8, 9
 // and 10 that fails is the refusal.
-pub fn store(t: Table, handle: u16, value: &[u8], fixed: &[u8], live: &mut [u8]) -> Changed
+pub fn store(
+    t: Table,
+    handle: u16,
+    value: &[u8],
+    fixed: &[u8],
+    live: &mut [u8],
+) -> Result<Table, Refusal>
     ensures value { result ≡ stored t handle value.now fixed.now live.old }
     ensures live_after { live.new ≡ stored_live t handle value.now fixed.now live.old }
 {
@@ -115,10 +110,9 @@ pub fn store(t: Table, handle: u16, value: &[u8], fixed: &[u8], live: &mut [u8])
 fn empty(fixed_len: usize, live_len: usize) -> Table
     ensures { result ≡ empty_table fixed_len live_len }
 {
-    let kind = ble_uuid::no_uuid();
-    let r = Record {
+    let blank = Record {
         handle: 0,
-        kind,
+        kind: ble_uuid::no_uuid(),
         readable: false,
         writable: false,
         read_encrypted: false,
@@ -126,7 +120,7 @@ fn empty(fixed_len: usize, live_len: usize) -> Table
         place: Place::Fixed { at: 0, len: 0 },
     };
     Table {
-        records: [r; 64],
+        records: [blank; 64],
         count: 0,
         fixed_len,
         live_len,
@@ -137,17 +131,14 @@ fn empty(fixed_len: usize, live_len: usize) -> Table
 fn record_for(a: Addition, used: usize) -> Record
     ensures { result ≡ fresh used a }
 {
-    let kind = a.kind;
-    let room = a.room;
-    let place = place_for(room, used);
     Record {
         handle: a.handle,
-        kind,
+        kind: a.kind,
         readable: a.readable,
         writable: a.writable,
         read_encrypted: a.read_encrypted,
         write_encrypted: a.write_encrypted,
-        place,
+        place: place_for(a.room, used),
     }
 }
 
@@ -162,15 +153,4 @@ fn place_for(room: Room, used: usize) -> Place
             len: 0,
         },
     }
-}
-
-fn append(t: Table, r: Record) -> Table
-    requires { t.count < 64 }
-    ensures { result ≡ appended t r }
-{
-    let n = t.count;
-    let mut next = t;
-    next.records[n] = r;
-    next.count = n + 1;
-    next
 }
