@@ -1,27 +1,13 @@
 -- Laws of a program's line, in the shapes that the proofs of the code ask for.
-use Rattle.std.specs.Prelude.{ℕ, ◌-◌, ◌≤◌, ◌<◌, ◌≡◌, refl, Bool, true, false, not, List, [], ◌∷◌, ◌++◌, length, take, drop, replicate, leb}
+use Rattle.std.specs.Prelude.{ℕ, ◌≤◌, ◌≡◌, refl, Bool, true, false, not, List, [], ◌∷◌, ◌++◌, Ok, Err, length, drop, leb}
 use Rattle.std.proofs.Common.{sym, arith, length-append, take_at, le-leb}
-use Rattle.std.proofs.lemmas.Bool.{lt-leb}
 use Rattle.codec.specs.CasesLaws.{impossible}
-use Rattle.codec.specs.Ascii.{ascii}
 use Rattle.codec.specs.Buffer.{over, laid, written, laid_at}
 use Rattle.codec.specs.Cases.{pick}
-use Rattle.codec.specs.Refusals.{refusal_number, name_of}
 use Rattle.codec.specs.declared.Error.{Error}
-use Rattle.codec.specs.declared.Error.TheVariants as error
-use Rattle.codec.specs.declared.Refusal.{Refusal}
-use Rattle.codec.specs.declared.Refusal.TheVariants.{InsufficientSpace, InvalidValue, TableFull, BadHandle, BadType, BadValue, NoRoom, UnknownHandle, NotStorable, TooLong, BadTable, BadLink}
-use Rattle.codec.specs.declared.Written.TheVariants.{Done, Refused}
-use Rattle.text_put.specs.Put.{first_of, behind, holding, refusal}
+use Rattle.codec.specs.declared.Error.TheVariants.{InsufficientSpace}
+use Rattle.text_put.specs.Put.{first_of, behind, holding}
 use Rattle.text_print.specs.Print.{placed, hex_text}
-use Rattle.text_decimal.specs.Decimal.{decimal_text}
-
--- fewer bytes than asked for, and enough of them
-pub too_few : (n : ℕ) (l : List ℕ) → length l < n → take (0 - 0) (drop 0 l) ≡ first_of n l
-too_few n l h = rw (lt-leb n (length l) h)
-
-pub enough : (n : ℕ) (l : List ℕ) → n ≤ length l → take (n - 0) (drop 0 l) ≡ first_of n l
-enough n l h = let z : n - 0 ≡ n = omega arith in rw (z, le-leb n (length l) h)
 
 -- the line `w`, of which texts end at `r`, is the line `out` with these texts from `pos` on
 abbrev pub Wrote : List (List ℕ) → ℕ → List ℕ → ℕ → List ℕ → Type 0
@@ -59,35 +45,6 @@ pub hex_as : (name a b : List ℕ) (pos : ℕ) (out : List ℕ) (r : ℕ) (w : L
     → Wrote (name ∷ hex_text b ∷ []) pos out r w
 hex_as name a b pos out r w e p = rw e at p
 
--- a text behind a text
-pub then : (pos at r : ℕ) (a b out m w : List ℕ) → (at ≡ placed pos a out) × (m ≡ laid_at pos a out) → (r ≡ placed at b m) × (w ≡ laid_at at b m)
-    → (r ≡ behind (a ∷ b ∷ []) pos out) × (w ≡ holding (a ∷ b ∷ []) pos out)
-unfolding behind holding
-then pos at r a b out m w p q = rw (p.0, p.1) at q
-
--- the four texts of a refusal
-pub refusal_said : (r : Refusal) (v pos p₂ p₃ q : ℕ) (out m₂ m₃ name w : List ℕ) → v ≡ refusal_number r → name ≡ name_of r
-    → (p₂ ≡ behind (ascii "refused " ∷ decimal_text v ∷ []) pos out) × (m₂ ≡ holding (ascii "refused " ∷ decimal_text v ∷ []) pos out)
-    → (p₃ ≡ placed p₂ (ascii " ") m₂) × (m₃ ≡ laid_at p₂ (ascii " ") m₂) → (q ≡ placed p₃ name m₃) × (w ≡ laid_at p₃ name m₃)
-    → (q ≡ behind (refusal r) pos out) × (w ≡ holding (refusal r) pos out)
-unfolding behind holding
-refusal_said r v pos p₂ p₃ q out m₂ m₃ name w n k e f g = rw (f.0, f.1, e.0, e.1, n, k) at g
-
--- every name has room in 32 bytes
-fits : (r : Refusal) → leb (length (name_of r)) 32 ≡ true
-fits InsufficientSpace = refl
-fits InvalidValue = refl
-fits TableFull = refl
-fits BadHandle = refl
-fits BadType = refl
-fits BadValue = refl
-fits NoRoom = refl
-fits UnknownHandle = refl
-fits NotStorable = refl
-fits TooLong = refl
-fits BadTable = refl
-fits BadLink = refl
-
 -- bytes that were laid over others, as many as they are
 pub first_laid : (l z : List ℕ) → first_of (length l) (over l z) ≡ l
 first_laid l z =
@@ -95,21 +52,17 @@ first_laid l z =
     rw (le-leb (length l) (length (over l z)) h) (take_at l (drop (length l) z) (length l) refl)
 
 -- what was written whole into a buffer stands at its start, and is what the buffer had no room for where it was refused
-pub stands : (b spelt : List ℕ) (n : ℕ) (m : List ℕ) → written b spelt ≡ Done n → m ≡ laid b spelt → first_of n m ≡ b
+pub stands : (b spelt : List ℕ) (n : ℕ) (m : List ℕ) → written b spelt ≡ Ok n → m ≡ laid b spelt → first_of n m ≡ b
 stands b spelt n m w h = by (leb (length b) (length spelt)) w h where
-  by : (t : Bool) → pick t (Done (length b)) (Refused error.InsufficientSpace) ≡ Done n → m ≡ pick t (over b spelt) spelt → first_of n m ≡ b
+  by : (t : Bool) → pick t (Ok (length b)) (Err InsufficientSpace) ≡ Ok n → m ≡ pick t (over b spelt) spelt → first_of n m ≡ b
   by true q o =
       let k : length b ≡ n = cc in rw (sym k, o) (first_laid b spelt)
   by false q o = impossible (cc)
 
-pub not_refused : (b spelt : List ℕ) (x : Error) → leb (length b) (length spelt) ≡ true → written b spelt ≡ Refused x → ⊥
+pub not_refused : (b spelt : List ℕ) (x : Error) → leb (length b) (length spelt) ≡ true → written b spelt ≡ Err x → ⊥
 not_refused b spelt x t w =
-    let q : Done (length b) ≡ Refused x = rw t at w in
+    let q : Ok (length b) ≡ Err x = rw t at w in
     impossible (cc)
-
--- the name of a refusal is never refused by 32 bytes
-pub name_fits : (r : Refusal) (x : Error) → written (name_of r) (replicate 32 0) ≡ Refused x → ⊥
-name_fits r x w = not_refused (name_of r) (replicate 32 0) x (fits r) w
 
 -- a test that fails, and one that does not
 pub flipped : (b : Bool) → not b ≡ true → b ≡ false

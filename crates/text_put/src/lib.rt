@@ -8,16 +8,13 @@ ghost use Rattle.std.specs.Prelude.{◌≡◌};
 ghost use Rattle.text_put.specs.Put.{first_of, behind, holding, byted, numbered, counting, hexed, typed, refusal, complaint_texts};
 
 use ble_uuid::Uuid;
-use codec::{Refusal, Written};
+use codec::Refusal;
 
 // The first bytes of a buffer, so many; none where it has fewer.
 pub fn first(bytes: &[u8], n: usize) -> &[u8]
     ensures { result.now ≡ first_of n bytes.now }
 {
-    if bytes.len() < n {
-        return &bytes[0..0];
-    }
-    &bytes[0..n]
+    bytes.get(..n).unwrap_or(&[])
 }
 
 // A text and a number of one byte.
@@ -71,17 +68,14 @@ pub fn kind(out: &mut [u8], pos: usize, name: &[u8], u: Uuid) -> usize
 }
 
 // A refusal's number and name.
+#[tactic(auto, unfolding(crate::specs::Put::behind, crate::specs::Put::holding))]
 pub fn refused(r: Refusal, out: &mut [u8], pos: usize) -> usize
     ensures value { result ≡ behind (refusal r) pos out.old }
     ensures out_after { out.new ≡ holding (refusal r) pos out.old }
 {
-    let mut spelt = [0u8; 32];
-    let at = count(out, pos, b"refused ", codec::number(r) as u64);
+    let at = count(out, pos, b"refused ", u64::from(u8::from(r)));
     let at = text_print::text(out, at, b" ");
-    match codec::write_name(r, &mut spelt) {
-        Written::Done(n) => text_print::text(out, at, first(&spelt, n)),
-        Written::Refused(_) => at,
-    }
+    text_print::text(out, at, r.name())
 }
 
 // What is said of a line that cannot be read: `error line K: WHAT`.
