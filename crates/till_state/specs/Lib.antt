@@ -1,2 +1,1 @@
 pub mod Tills
-pub mod TillsLaws
