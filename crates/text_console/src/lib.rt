@@ -6,12 +6,10 @@
 
 ghost use Rattle.std.specs.Prelude.{◌≡◌, false, [], ◌∷◌, length, replicate, IfOk};
 ghost use Rattle.codec.specs.Buffer.{laid_at};
-ghost use Rattle.text_lines.specs.declared.Seen.TheVariants.{More};
 ghost use Rattle.text_put.specs.Put.{behind, complaint_texts};
-ghost use Rattle.text_console.specs.Console.{amid_of};
 
 use std::io::{self, Read, Stdin, Stdout, Write};
-use text_lines::{Lines, Seen, Stepped};
+use text_lines::{Lines, Seen};
 
 // Writes the line that ends at a position to standard output. Whether that went well or not, the line
 // then ends with LF where it has room.
@@ -33,112 +31,85 @@ pub fn complain(to: Stdout, number: u64, what: &[u8]) -> io::Result<usize>
 }
 
 // Where the reading of standard input is: in the line that is being read, and in the bytes that the
-// lent buffer holds of the last read.
+// lent buffer holds of the last read; and whether the input has ended.
 #[derive(Clone, Copy)]
 pub struct Input {
     pub lines: Lines,
     pub at: usize,
     pub end: usize,
+    pub ended: bool,
 }
 
-// What came next: a line, what it is, and its number. Where there is no more, `seen` is a last line
-// without LF, or `More` for none.
+// A line that came: what it is, its number, and where the reading then is.
 #[derive(Clone, Copy)]
 pub struct Came {
     pub input: Input,
     pub seen: Seen,
     pub number: u64,
-    pub more: bool,
 }
 
 pub fn start() -> Input
-    ensures { result ≡ record { lines = record { len = 0; long = false; number = 1 }; at = 0; end = 0 } }
+    ensures { result ≡ record { lines = record { len = 0; long = false; number = 1 }; at = 0; end = 0; ended = false } }
 {
     Input {
         lines: text_lines::new(),
         at: 0,
         end: 0,
+        ended: false,
     }
 }
 
-fn reached(s: Stepped, at: usize, end: usize, more: bool) -> Came {
-    let lines = s.lines;
-    let seen = s.seen;
-    Came {
-        input: Input { lines, at, end },
-        seen,
-        number: s.number,
-        more,
-    }
-}
-
-fn unfinished(lines: Lines, at: usize, end: usize, more: bool) -> Came
-    ensures seen_value { result.seen ≡ More }
-    ensures more_value { result.more ≡ more }
+// The next byte of the input, which is read into the lent buffer where none is left there; none at its
+// end.
+fn byte(mut from: Stdin, input: &mut Input, buf: &mut [u8]) -> io::Result<Option<u8>>
+    ensures { length buf.new ≡ length buf.old }
 {
-    Came {
-        input: Input { lines, at, end },
-        seen: Seen::More,
-        number: lines.number,
-        more,
-    }
-}
-
-// One byte that was read before; or, where none is left, one read of the input.
-fn turn(mut from: Stdin, input: Input, buf: &mut [u8], line: &mut [u8]) -> io::Result<Came>
-    ensures buf_length { length buf.new ≡ length buf.old }
-    ensures line_length { length line.new ≡ length line.old }
-{
-    let lines = input.lines;
-    let at = input.at;
-    let end = input.end;
-    if at < end {
-        if at < buf.len() {
-            return Ok(reached(text_lines::step(lines, buf[at], line), at + 1, end, true));
+    if input.end.min(buf.len()) <= input.at {
+        input.at = 0;
+        input.end = from.read(buf)?;
+        if input.end == 0 {
+            input.ended = true;
+            return Ok(None);
         }
     }
-    let n = from.read(buf)?;
-    if n == 0 {
-        return Ok(reached(text_lines::last(lines, line), 0, 0, false));
-    }
-    Ok(unfinished(lines, 0, n, true))
+    let c = buf[input.at];
+    input.at += 1;
+    Ok(Some(c))
 }
 
-// Whether the input is not yet at the end of a line, nor at its own.
-fn amid(seen: Seen, more: bool) -> bool
-    ensures { result ≡ amid_of seen more }
-{
-    match seen {
-        Seen::More => more,
-        Seen::Line(_) => false,
-        Seen::TooLong => false,
-        Seen::Passed => false,
-    }
-}
-
-// The next line of standard input, in the lent `line`. It reads into the lent `buf` only where a line
-// is not whole yet, so that a line is answered before the next one is needed. A proved loop has to
-// end, so it counts its turns down from a number that no run uses up.
+// The next line of standard input, in the lent `line`; none at the end of the input, where a last line
+// without LF counts. It reads into the lent `buf` only where a line is not whole yet, so that a line is
+// answered before the next one is needed. A proved loop has to end, so it has a number of turns that no
+// run uses up.
 //
 // What is read may be anything, so the contract has what holds of every read: the two buffers are as
-// long as before, and what came is a line or the end of the input.
-pub fn next(from: Stdin, input: Input, buf: &mut [u8], line: &mut [u8]) -> io::Result<Came>
-    ensures came { IfOk result (λ r. amid_of r.seen r.more ≡ false) }
+// long as before.
+pub fn next(
+    from: Stdin,
+    mut input: Input,
+    buf: &mut [u8],
+    line: &mut [u8],
+) -> io::Result<Option<Came>>
     ensures buf_length { length buf.new ≡ length buf.old }
     ensures line_length { length line.new ≡ length line.old }
 {
-    let mut reading = input;
-    let mut turns = u64::MAX;
-    while turns > 0 {
-        let t = turn(from, reading, buf, line)?;
-        let seen = t.seen;
-        if !amid(seen, t.more) {
-            return Ok(t);
+    for _ in 0..u64::MAX {
+        if input.ended {
+            return Ok(None);
         }
-        let input = t.input;
-        reading = input;
-        turns -= 1;
+        let stepped = match byte(from, &mut input, buf)? {
+            Some(c) => text_lines::step(input.lines, c, line),
+            None => text_lines::last(input.lines, line),
+        };
+        input.lines = stepped.lines;
+        if let Some(seen) = stepped.seen {
+            let number = stepped.number;
+            return Ok(Some(Came {
+                input,
+                seen,
+                number,
+            }));
+        }
     }
-    let lines = reading.lines;
-    Ok(unfinished(lines, 0, 0, false))
+    Ok(None)
 }
