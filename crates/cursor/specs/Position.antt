@@ -23,3 +23,12 @@ parting pos len n = pick (enough pos len n) (Ok tt) (Err InsufficientSpace)
 
 abbrev pub parted : ℕ → ℕ → ℕ → List ℕ → List ℕ
 parted pos len n bytes = pick (enough pos len n) bytes []
+
+-- what a call that moves the cursor answers, and where the cursor then stands: on a refusal where it stood
+abbrev pub done : Result ℕ Error → Result Unit Error
+done (Ok next) = Ok tt
+done (Err e) = Err e
+
+abbrev pub stepped : ℕ → Result ℕ Error → ℕ
+stepped pos (Ok next) = next
+stepped pos (Err e) = pos

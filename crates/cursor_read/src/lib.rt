@@ -7,8 +7,9 @@
 
 ghost use Rattle.std.specs.Prelude.{◌≡◌, Ok, Err, length};
 ghost use Rattle.codec.specs.declared.Error.TheVariants.{InvalidValue};
-ghost use Rattle.cursor.specs.Position.{left, moving};
-ghost use Rattle.cursor.specs.Reading.{read_at, rest, sliced};
+ghost use Rattle.cursor.specs.Position.{left, moving, stepped};
+ghost use Rattle.cursor.specs.Reading.{read_at, rest};
+ghost use Rattle.cursor_read.specs.Parts.{part_of, slicing};
 
 use codec::Error;
 use primitives::Primitive;
@@ -51,22 +52,24 @@ impl<'d> ReadCursor<'d> {
         Ok(value)
     }
 
-    pub fn slice(self, n: usize) -> &'d [u8]
-        ensures { result.now ≡ sliced self.entry.pos self.entry.«data».now n }
+    // The next n bytes, behind which the cursor then stands.
+    pub fn slice(&mut self, n: usize) -> Result<&'d [u8], Error>
+        ensures value { part_of result ≡ slicing self.old.pos self.old.«data».now n }
+        ensures pos_after { self.new.pos ≡ stepped self.old.pos (moving self.old.pos (length self.old.«data».now) n) }
+        ensures data_after { self.new.«data» ≡ self.old.«data» }
     {
-        cursor::slice(self.pos, self.data, n)
+        let next = cursor::forward(self.pos, self.data.len(), n)?;
+        let part = &self.data[self.pos..next];
+        self.pos = next;
+        Ok(part)
     }
 
-    pub fn slice_answer(self, n: usize) -> Result<usize, Error>
-        ensures { result ≡ moving self.entry.pos (length self.entry.«data».now) n }
+    // The next n bytes; the cursor is used up.
+    pub fn consume(self, n: usize) -> Result<&'d [u8], Error>
+        ensures { part_of result ≡ slicing self.entry.pos self.entry.«data».now n }
     {
-        cursor::slice_answer(self.pos, self.data, n)
-    }
-
-    pub fn consume(self, n: usize) -> &'d [u8]
-        ensures part { result.now ≡ sliced self.entry.pos self.entry.«data».now n }
-    {
-        cursor::consume(self.pos, self.data, n)
+        let next = cursor::forward(self.pos, self.data.len(), n)?;
+        Ok(&self.data[self.pos..next])
     }
 
     pub fn remaining(self) -> &'d [u8]

@@ -1,6 +1,6 @@
 -- Document 01, "Cursors": writing at a position. What the buffer then holds is `laid_at` of the codec's Buffer: the bytes are
 -- written whole or not at all.
-use Rattle.std.specs.Prelude.{ℕ, List, length, take, drop, leb, Result, Ok, Err}
+use Rattle.std.specs.Prelude.{ℕ, List, length, take, drop, leb, Result}
 use Rattle.codec.specs.Cases.{pick}
 use Rattle.codec.specs.Buffer.{over}
 use Rattle.cursor.specs.Position.{moving, parted}
@@ -28,12 +28,3 @@ finished pos out = parted pos (length out) 0 (take pos out)
 -- what `write_buf` lends, once the encoder of the next field has filled it
 abbrev pub filled : ℕ → List ℕ → List ℕ → List ℕ
 filled pos out bytes = parted pos (length out) (length bytes) (over bytes (drop pos out))
-
--- what a call that moves the cursor answers, and where the cursor then stands: on a refusal where it stood
-abbrev pub done : Result ℕ Error → Result Unit Error
-done (Ok next) = Ok tt
-done (Err e) = Err e
-
-abbrev pub stepped : ℕ → Result ℕ Error → ℕ
-stepped pos (Ok next) = next
-stepped pos (Err e) = pos

@@ -7,9 +7,9 @@
 ghost use Rattle.std.specs.Prelude.{◌≡◌, length};
 ghost use Rattle.codec.specs.Buffer.{laid_at};
 ghost use Rattle.primitives.specs.Numbers.{bytes_of};
-ghost use Rattle.cursor.specs.Position.{left, moving};
+ghost use Rattle.cursor.specs.Position.{left, moving, done, stepped};
 ghost use Rattle.cursor.specs.Reading.{rest};
-ghost use Rattle.cursor_write.specs.Writing.{truncated, split_first, split_second, writing, filled, finished, done, stepped};
+ghost use Rattle.cursor_write.specs.Writing.{truncated, split_first, split_second, writing, filled, finished};
 
 use codec::Error;
 use cursor::forward;
@@ -113,7 +113,6 @@ impl<'d> WriteCursor<'d> {
         }
     }
 }
-
 
 // Moves the position back to npos; it never moves it on.
 pub fn truncate(pos: usize, npos: usize) -> usize
