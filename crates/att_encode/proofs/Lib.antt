@@ -1,3 +1,3 @@
-pub mod PlaceLaws
 pub mod RoundTrip
+pub mod TailLaws
 pub mod WriteLaws

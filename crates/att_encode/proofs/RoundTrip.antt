@@ -7,7 +7,6 @@ use mathlib.Core.List.{List}
 use lib.ListN.{length}
 use lib.Dec.{ltb}
 use Rattle.codec.specs.Cases.{pick}
-use Rattle.ble_uuid.specs.declared.Uuid.{Uuid}
 use Rattle.att.specs.Wire.{Coded, Sent, NotSent, Means, send, trimmed}
 use Rattle.att.specs.Proper.{Held}
 use Rattle.att.specs.Typed.{meaning_of, part_ok, countable, encoded, encoded_shown, show_att, decoded, read_of}
@@ -27,9 +26,8 @@ tested : (t : Bool) (k : Coded) (b : List ℕ) → pick t (countable k) NotSent 
 tested true k b e = counted k b e
 tested false k b e = cc
 
-pub encode_then_decode : (a : Att) (u : Uuid) (src b : List ℕ) → Held a → encoded a u src ≡ Sent b
-    → read_of (decoded b).answer (decoded b).uuid b ≡ Means (trimmed (meaning_of a u src))
+pub encode_then_decode : (a : Att) (src b : List ℕ) → Held a → encoded a src ≡ Sent b → read_of (decoded b) b ≡ Means (trimmed (meaning_of a src))
 unfolding encoded_shown
-encode_then_decode a u src b p e =
-    let s : send (meaning_of a u src) ≡ Sent b = tested (part_ok (show_att a).part src) (send (meaning_of a u src)) b e in
-    decoded_means b ∙ encode_round_trip (meaning_of a u src) b (held_proper a u src p) s
+encode_then_decode a src b p e =
+    let s : send (meaning_of a src) ≡ Sent b = tested (part_ok (show_att a).part src) (send (meaning_of a src)) b e in
+    decoded_means b ∙ encode_round_trip (meaning_of a src) b (held_proper a src p) s
