@@ -5,7 +5,7 @@
 ghost use Rattle.std.specs.Prelude.{◌≡◌};
 ghost use Rattle.attributes.specs.Records.{entries, slot_of, slot_size};
 ghost use Rattle.attributes.specs.Soundness.{type_ok, value_ok, space_ok, start_ok, length_ok, room_of, record_ok, sound_table};
-ghost use Rattle.table_rules.specs.Walks.{whole_ok, walk_from, walked_table};
+ghost use Rattle.table_rules.specs.Walks.{whole_ok, begun, behind, walk_from, walked_table};
 
 use attributes::{Place, Record, Room, Table};
 use ble_uuid::Uuid;
@@ -109,31 +109,40 @@ fn slot_size(place: Place) -> usize
     }
 }
 
-// A record behind one with the handle `last`, where the slots so far end at `used`.
-fn record_ok(r: Record, fixed_len: usize, live_len: usize, last: u16, used: usize) -> bool
-    ensures { result ≡ record_ok fixed_len live_len last used r }
+// A record behind those of this walk.
+fn record_ok(r: Record, fixed_len: usize, live_len: usize, walked: Walked) -> bool
+    ensures { result ≡ record_ok fixed_len live_len walked.last walked.used r }
 {
     let room = room_of(r.place);
-    last < r.handle
+    walked.last < r.handle
         && type_ok(r.kind)
         && value_ok(fixed_len, r.writable, room)
-        && space_ok(live_len, used, room)
-        && start_ok(used, r.place)
+        && space_ok(live_len, walked.used, room)
+        && start_ok(walked.used, r.place)
         && length_ok(r.place)
 }
 
-#[tactic(auto, using(crate::proofs::WalkLaws::walk_ends, crate::proofs::WalkLaws::slot_within))]
-fn walk_records(t: Table, fixed_len: usize, live_len: usize) -> Option<Walked>
-    ensures { result ≡ walk_from fixed_len live_len 0 0 (entries t) }
+// The walk with this record behind; none where it breaks a rule.
+#[tactic(auto, using(crate::proofs::WalkLaws::slot_within))]
+fn behind(walked: Walked, r: Record, fixed_len: usize, live_len: usize) -> Option<Walked>
+    ensures { result ≡ behind fixed_len live_len walked r }
 {
-    let mut last = 0u16;
-    let mut used = 0usize;
-    for r in t.entries() {
-        if !record_ok(*r, fixed_len, live_len, last, used) {
-            return None;
-        }
-        last = r.handle;
-        used += slot_size(r.place);
+    if !record_ok(r, fixed_len, live_len, walked) {
+        return None;
     }
-    Some(Walked { last, used })
+    Some(Walked {
+        last: r.handle,
+        used: walked.used + slot_size(r.place),
+    })
+}
+
+#[tactic(auto, using(crate::proofs::WalkLaws::walk_stops, crate::proofs::WalkLaws::walk_goes, crate::proofs::WalkLaws::walk_ends))]
+fn walk_records(t: Table, fixed_len: usize, live_len: usize) -> Option<Walked>
+    ensures { result ≡ walk_from fixed_len live_len begun (entries t) }
+{
+    let mut walked = Walked { last: 0, used: 0 };
+    for r in t.entries() {
+        walked = behind(walked, *r, fixed_len, live_len)?;
+    }
+    Some(walked)
 }
