@@ -1,54 +1,49 @@
 -- The search as code goes about it, a record at a time. WalkLaws.antt says that this is the list of Search.antt.
-use Rattle.std.specs.Prelude.{ℕ, ◌-◌, ◌&&◌, List, [], map, take, leb}
+use Rattle.std.specs.Prelude.{ℕ, ◌-◌, ◌&&◌, List, [], map, take, leb, Some, Ok}
 use Rattle.codec.specs.Cases.{pick}
 use Rattle.ble_uuid.specs.Uuids.{own}
 use Rattle.attributes.specs.Ledger.{item}
 use Rattle.attributes.specs.Records.{value_of}
 use Rattle.attributes.specs.declared.Record.{Record}
-use Rattle.attributes.specs.declared.Table.{Table}
-use Rattle.answers.specs.Contract.{views_for}
 use Rattle.answers.specs.Replies as book
 use Rattle.answers.specs.Replies.{Part}
+use Rattle.answers.specs.Serve.{State, views}
 use Rattle.answers.specs.View.{View, view}
-use Rattle.answers.specs.declared.Link.{Link}
 use Rattle.serve_collect.specs.Collect.{Walk, step, fold}
 use Rattle.serve_collect.specs.declared.Head.TheVariants.{Handle}
 use Rattle.serve_collect.specs.declared.Progress.TheVariants.{Seeking}
-use Rattle.serve_offer.specs.Offers.{pair_offer, typed_offer, grouped_offer}
-use Rattle.serve_offer.specs.declared.Offer.{Offer}
-use Rattle.serve_offer.specs.declared.Offer.TheVariants.{Take}
-use Rattle.serve_search.specs.Search.{part_for, room_for}
+use Rattle.serve_offer.specs.Offers.{Offer, pair_offer, typed_offer, grouped_offer}
+use Rattle.serve_search.specs.Search.{Asked, part_for, room_for}
 use Rattle.serve_search.specs.declared.Ask.{Ask}
 use Rattle.serve_search.specs.declared.Ask.TheVariants.{Info, Pair, Typed, Grouped}
-use Rattle.serve_search.specs.declared.Query.{Query}
 
 -- what a record offers, and what stands behind the head of its item: the type for 04, nothing for 06, the cut value for 08 and 10
-abbrev pub offer_for : Ask → List ℕ → List ℕ → Table → Link → List ℕ → List ℕ → Record → Offer
-offer_for Info kind value t l fixed live r = Take (Handle r.handle)
-offer_for Pair kind value t l fixed live r = pair_offer kind value t l fixed live r
-offer_for Typed kind value t l fixed live r = typed_offer kind l r
-offer_for Grouped kind value t l fixed live r = grouped_offer kind t l r
+abbrev pub offer_for : Ask → Asked → State → Record → Offer
+offer_for Info q s r = Some (Ok (Handle r.handle))
+offer_for Pair q s r = pair_offer q.kind q.value s r
+offer_for Typed q s r = typed_offer q.kind s.link r
+offer_for Grouped q s r = grouped_offer q.kind s.table s.link r
 
-abbrev pub tail_for : Ask → Link → List ℕ → List ℕ → Record → List ℕ
-tail_for Info l fixed live r = own r.kind
-tail_for Pair l fixed live r = []
-tail_for Typed l fixed live r = take (l.mtu - 4) (value_of r.place fixed live)
-tail_for Grouped l fixed live r = take (l.mtu - 6) (value_of r.place fixed live)
+abbrev pub tail_for : Ask → State → Record → List ℕ
+tail_for Info s r = own r.kind
+tail_for Pair s r = []
+tail_for Typed s r = take (s.link.mtu - 4) (value_of r.place s.fixed s.live)
+tail_for Grouped s r = take (s.link.mtu - 6) (value_of r.place s.fixed s.live)
 
 -- what a record gives: nothing outside of the range that is asked
-unfoldable pub given : Query → (View → Part) → View → Part
+unfoldable pub given : Asked → (View → Part) → View → Part
 given q f v = pick (leb q.from v.handle && leb v.handle q.to) (f v) book.Skip
 
-abbrev pub given_by : Query → List ℕ → List ℕ → Table → Link → List ℕ → List ℕ → Record → Part
-given_by q kind value t l fixed live r = given q (part_for q.ask kind value (views_for t l fixed live) l) (view l.encrypted (item fixed live r))
+abbrev pub given_by : Asked → State → Record → Part
+given_by q s r = given q (part_for q.ask q.kind q.value (views s) s.link) (view s.link.encrypted (item s.fixed s.live r))
 
 -- one record more
-abbrev pub turn_of : Query → List ℕ → List ℕ → Table → Link → List ℕ → List ℕ → Walk → Record → Walk
-turn_of q kind value t l fixed live w r = step (room_for q.ask l) w (given_by q kind value t l fixed live r)
+abbrev pub turn_of : Asked → State → Walk → Record → Walk
+turn_of q s w r = step (room_for q.ask s.link) w (given_by q s r)
 
 -- from a state on over some records, and from the start
-abbrev pub walked_from : Query → List ℕ → List ℕ → Table → Link → List ℕ → List ℕ → Walk → List Record → Walk
-walked_from q kind value t l fixed live w rs = fold (step (room_for q.ask l)) w (map (given_by q kind value t l fixed live) rs)
+abbrev pub walked_from : Asked → State → Walk → List Record → Walk
+walked_from q s w rs = fold (step (room_for q.ask s.link)) w (map (given_by q s) rs)
 
-abbrev pub walked : Query → List ℕ → List ℕ → Table → Link → List ℕ → List ℕ → List Record → List ℕ → Walk
-walked q kind value t l fixed live rs area = walked_from q kind value t l fixed live (Seeking, area) rs
+abbrev pub walked : Asked → State → List Record → List ℕ → Walk
+walked q s rs area = walked_from q s (Seeking, area) rs

@@ -6,15 +6,17 @@
 // link, and only what it takes is read.
 #![tactic(auto)]
 
-ghost use Rattle.std.specs.Prelude.{◌≡◌, ◌++◌, ◌≤◌, take};
-ghost use Rattle.serve_collect.specs.Collect.{head_of, taken};
-ghost use Rattle.serve_search.specs.Search.{room_for, listing_for};
-ghost use Rattle.serve_search.specs.Walk.{offer_for, tail_for, turn_of, walked};
+ghost use Rattle.std.specs.Prelude.{◌≡◌, ◌≤◌, map};
+ghost use Rattle.attributes.specs.Records.{entries};
+ghost use Rattle.answers.specs.Contract.{lent_state};
+ghost use Rattle.serve_collect.specs.Collect.{head_of, taken, Fits, FirstFits};
+ghost use Rattle.serve_search.specs.Search.{asked, room_for, listing_for};
+ghost use Rattle.serve_search.specs.Walk.{offer_for, tail_for, given_by, turn_of, walked};
 
-use answers::Link;
-use attributes::{Record, Table};
-use serve_collect::{Gathered, Head, Progress};
-use serve_offer::Offer;
+use answers::{Lent, Link};
+use att_error::AttErrorCode;
+use attributes::Record;
+use serve_collect::{Failed, Head, Listed, Progress};
 
 // 04, 06, 08 and 10.
 #[derive(Clone, Copy)]
@@ -25,178 +27,125 @@ pub enum Ask {
     Grouped,
 }
 
-// What is asked, of the attributes with handles from `from` to `to`.
+// What is asked, of the attributes with handles from `from` to `to`: `kind` has the own bytes of the type
+// asked for (06, 08, 10), `value` the value (06).
 #[derive(Clone, Copy)]
-pub struct Query {
+pub struct Query<'a> {
     pub ask: Ask,
     pub from: u16,
     pub to: u16,
+    pub kind: &'a [u8],
+    pub value: &'a [u8],
 }
 
 // What was found. The items stand one after the other in the first `used` bytes, and 00 behind them.
 #[derive(Clone, Copy)]
 pub struct Listing {
-    pub found: Gathered,
+    pub found: Option<Result<Listed, Failed>>,
     pub items: [u8; 247],
 }
 
-// The list for a request: `kind` has the own bytes of the type asked for (06, 08, 10), `value` the value
-// (06). Nothing is found for an MTU that is not legal.
-pub fn search<'a>(
-    query: Query,
-    kind: &[u8],
-    value: &[u8],
-    t: Table,
-    link: Link,
-    fixed: &'a [u8],
-    live: &'a [u8],
-) -> Listing
-    ensures { result ≡ listing_for query kind.now value.now t link fixed.now live.now }
+// The list for a request. Nothing is found for an MTU that is not legal.
+pub fn search(query: Query<'_>, lent: Lent<'_>) -> Listing
+    ensures { result ≡ listing_for (asked query.entry) (lent_state lent.entry) }
 {
     let mut items = [0u8; 247];
-    if !serve_link::legal_mtu(link.mtu) {
-        return Listing {
-            found: Gathered::None,
-            items,
-        };
+    if !serve_link::legal_mtu(lent.link.mtu) {
+        return Listing { found: None, items };
     }
-    let n = table_records::counted(t);
-    let state = walk(query, kind, value, t, n, link, fixed, live, &mut items);
-    let found = serve_collect::result(state);
-    Listing { found, items }
+    let state = walk(query, lent, &mut items);
+    Listing {
+        found: serve_collect::result(state),
+        items,
+    }
 }
 
 // The records in order, until the list ends.
-fn walk<'a>(
-    query: Query,
-    kind: &[u8],
-    value: &[u8],
-    t: Table,
-    n: usize,
-    link: Link,
-    fixed: &'a [u8],
-    live: &'a [u8],
-    items: &mut [u8],
-) -> Progress
-    requires n_bound { n ≤ 64 }
-    requires le_mtu { 23 ≤ link.mtu }
-    requires mtu_bound { link.mtu ≤ 247 }
-    ensures { walked query kind.now value.now t link fixed.now live.now (take n t.records)
-        items.old ≡ (result, items.new) }
+fn walk(query: Query<'_>, lent: Lent<'_>, items: &mut [u8]) -> Progress
+    requires le_mtu { 23 ≤ lent.link.mtu }
+    requires mtu_bound { lent.link.mtu ≤ 247 }
+    ensures walk { walked (asked query.entry) (lent_state lent.entry) (entries lent.entry.table.now) items.old
+        ≡ (result, items.new) }
+    ensures fits { FirstFits (room_for query.entry.ask lent.entry.link)
+        (map (given_by (asked query.entry) (lent_state lent.entry)) (entries lent.entry.table.now)) }
 {
+    let records = lent.table.entries();
     let mut state = Progress::Seeking;
-    let mut i = 0usize;
-    while i < n {
-        let r = t.records[i];
-        state = turn(query, kind, value, t, r, link, fixed, live, state, items);
+    for r in records {
+        state = turn(query, *r, lent, state, items);
         if serve_collect::ended(state) {
             return state;
         }
-        i += 1;
     }
     state
 }
 
 // One record.
-fn turn<'a>(
-    query: Query,
-    kind: &[u8],
-    value: &[u8],
-    t: Table,
-    r: Record,
-    link: Link,
-    fixed: &'a [u8],
-    live: &'a [u8],
-    state: Progress,
-    items: &mut [u8],
-) -> Progress
-    requires le_mtu { 23 ≤ link.mtu }
-    requires mtu_bound { link.mtu ≤ 247 }
-    ensures { turn_of query kind.now value.now t link fixed.now live.now
-        (state, items.old) r ≡ (result, items.new) }
+fn turn(query: Query<'_>, r: Record, lent: Lent<'_>, state: Progress, items: &mut [u8]) -> Progress
+    requires le_mtu { 23 ≤ lent.link.mtu }
+    requires mtu_bound { lent.link.mtu ≤ 247 }
+    ensures turn { turn_of (asked query.entry) (lent_state lent.entry) (state, items.old) r
+        ≡ (result, items.new) }
+    ensures fits { Fits (room_for query.entry.ask lent.entry.link)
+        (given_by (asked query.entry) (lent_state lent.entry) r) }
 {
-    if r.handle < query.from {
+    if r.handle < query.from || query.to < r.handle {
         return state;
     }
-    if query.to < r.handle {
-        return state;
-    }
-    let ask = query.ask;
-    match offered(ask, kind, value, t, r, link, fixed, live) {
-        Offer::Skip => state,
-        Offer::Take(head) => take_item(ask, head, r, link, fixed, live, state, items),
-        Offer::Fail(code) => serve_collect::fail(state, r.handle, code),
+    match offered(query, r, lent) {
+        None => state,
+        Some(Ok(head)) => serve_collect::append(
+            head,
+            tail(query.ask, &r, lent),
+            room(query.ask, lent.link),
+            state,
+            items,
+        ),
+        Some(Err(code)) => serve_collect::fail(state, r.handle, code),
     }
 }
 
 // What the record gives: nothing, an item with this head, or the code that reading it is refused with.
-fn offered<'a>(
-    ask: Ask,
-    kind: &[u8],
-    value: &[u8],
-    t: Table,
-    r: Record,
-    link: Link,
-    fixed: &'a [u8],
-    live: &'a [u8],
-) -> Offer
-    ensures { result ≡ offer_for ask kind.now value.now t link fixed.now live.now r }
+fn offered(query: Query<'_>, r: Record, lent: Lent<'_>) -> Option<Result<Head, AttErrorCode>>
+    ensures { result ≡ offer_for query.entry.ask (asked query.entry) (lent_state lent.entry) r }
 {
-    match ask {
-        Ask::Info => Offer::Take(Head::Handle(r.handle)),
-        Ask::Pair => serve_offer::pair(kind, value, t, r, link, fixed, live),
-        Ask::Typed => serve_offer::typed(kind, r, link),
-        Ask::Grouped => serve_offer::grouped(kind, t, r, link),
+    match query.ask {
+        Ask::Info => Some(Ok(Head::Handle(r.handle))),
+        Ask::Pair => serve_offer::pair(query.kind, query.value, r, lent),
+        Ask::Typed => serve_offer::typed(query.kind, r, lent.link),
+        Ask::Grouped => serve_offer::grouped(query.kind, lent.table, r, lent.link),
     }
 }
 
-// The item with this head. Behind it stand the type for 04, nothing for 06, the cut value for 08 and 10.
-fn take_item<'a>(
-    ask: Ask,
-    head: Head,
-    r: Record,
-    link: Link,
-    fixed: &'a [u8],
-    live: &'a [u8],
-    state: Progress,
-    items: &mut [u8],
-) -> Progress
-    requires le_mtu { 23 ≤ link.mtu }
-    requires mtu_bound { link.mtu ≤ 247 }
-    ensures { taken (room_for ask link) (head_of head ++ tail_for ask link fixed.now live.now r) state
-        items.old ≡ (result, items.new) }
+// What stands behind the head of an item: the type for 04, nothing for 06, the cut value for 08 and 10.
+fn tail<'a>(ask: Ask, r: &'a Record, lent: Lent<'a>) -> &'a [u8]
+    requires { 23 ≤ lent.link.mtu }
+    ensures { result.now ≡ tail_for ask (lent_state lent.entry) r.now }
 {
-    let place = r.place;
-    let mtu = link.mtu as usize;
-    let room = (mtu - 2) as u8;
+    let mtu = lent.link.mtu as usize;
     match ask {
-        Ask::Info => {
-            let kind = r.kind;
-            let form = kind.form;
-            let all = kind.bytes;
-            let n = ble_uuid::width(form);
-            serve_collect::append(head, &all[0..n], room, state, items)
-        }
-        Ask::Pair => serve_collect::append(head, &fixed[0..0], room + 1, state, items),
+        Ask::Info => r.kind.as_raw(),
+        Ask::Pair => &[],
         Ask::Typed => {
-            let value = table_records::value(place, fixed, live);
-            serve_collect::append(
-                head,
-                table_records::part(value, 0, mtu - 4),
-                room,
-                state,
-                items,
-            )
+            let value = table_records::value(r.place, lent.fixed, lent.live);
+            table_records::part(value, 0, mtu - 4)
         }
         Ask::Grouped => {
-            let value = table_records::value(place, fixed, live);
-            serve_collect::append(
-                head,
-                table_records::part(value, 0, mtu - 6),
-                room,
-                state,
-                items,
-            )
+            let value = table_records::value(r.place, lent.fixed, lent.live);
+            table_records::part(value, 0, mtu - 6)
         }
     }
+}
+
+// The room that an answer has for its items.
+fn room(ask: Ask, link: Link) -> u8
+    requires le_mtu { 23 ≤ link.mtu }
+    requires mtu_bound { link.mtu ≤ 247 }
+    ensures { result ≡ room_for ask link }
+{
+    let fixed = match ask {
+        Ask::Pair => 1,
+        _ => 2,
+    };
+    (link.mtu - fixed) as u8
 }
