@@ -1,27 +1,28 @@
 -- What the words of a request say, and the words of a refusal and of a number of four bytes.
-use Rattle.std.specs.Prelude.{ℕ, ◌/◌, ◌%◌, List, [], ◌∷◌, ◌++◌, reverse, take, drop, replicate, leb}
+use Rattle.std.specs.Prelude.{ℕ, ◌/◌, ◌%◌, List, [], ◌∷◌, ◌++◌, Option, Some, None, length, leb, reverse, take, drop, replicate}
+use Rattle.std.specs.Result.{result_unwrap_or}
 use Rattle.codec.specs.Ascii.{ascii}
 use Rattle.codec.specs.Cases.{pick}
 use Rattle.codec.specs.Refusals.{refusal_number, refusal_of}
 use Rattle.codec.specs.declared.Error.{Error}
 use Rattle.text_put.specs.Put.{counting}
 use Rattle.text_hex.specs.Hex.{hex_means, answered, filled}
-use Rattle.text_hex.specs.declared.Hex.{Hex}
-use Rattle.text_hex.specs.declared.Hex.TheVariants.{Bytes, NotHex, TooLong}
 use Rattle.text_print.specs.Print.{capitals}
 
--- how many bytes a HEX has; none where a word is no HEX, or too long
-abbrev pub size_of : Hex → ℕ
-size_of (Bytes n) = n
-size_of NotHex = 0
-size_of TooLong = 0
+-- the bytes of a HEX; none where a word is no HEX or has more than `k` of them
+abbrev pub said_by : ℕ → Option (List ℕ) → List ℕ
+said_by k None = []
+said_by k (Some bytes) = pick (leb (length bytes) k) bytes []
+
+abbrev pub said : ℕ → List ℕ → List ℕ
+said k word = said_by k (hex_means word)
 
 -- the first n bytes turned round
 abbrev pub turned : ℕ → List ℕ → List ℕ
-turned n b = pick (leb n 4) (reverse (take n b) ++ drop n b) b
+turned n b = reverse (take n b) ++ drop n b
 
 abbrev pub little_of : List ℕ → List ℕ
-little_of word = turned (size_of (answered (hex_means word) 4)) (filled (hex_means word) (replicate 4 0))
+little_of word = turned (result_unwrap_or (answered (hex_means word) 4) 0) (filled (hex_means word) (replicate 4 0))
 
 -- `!1` or `!2`, behind a text
 abbrev pub refused_texts : List ℕ → Error → List (List ℕ)

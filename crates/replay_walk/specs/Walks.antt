@@ -3,16 +3,8 @@ use Rattle.std.specs.Prelude.{ℕ, ◌+◌, ◌-◌, Bool, true, List, [], ◌�
 use Rattle.codec.specs.Ascii.{ascii}
 use Rattle.codec.specs.Buffer.{laid_at}
 use Rattle.codec.specs.Cases.{pick}
-use Rattle.cursor.specs.Position.{left}
-use Rattle.text_hex.specs.declared.Number.{Number}
-use Rattle.text_hex.specs.declared.Number.TheVariants.{Is, NotNumber}
 use Rattle.text_print.specs.Print.{placed}
 use Rattle.text_put.specs.Put.{counting}
-
--- a number; nothing where a word is none
-abbrev pub value_of : Number → ℕ
-value_of (Is n) = n
-value_of NotNumber = 0
 
 -- no word, or one that begins with `=`
 abbrev pub end_of : List ℕ → Bool
@@ -30,6 +22,6 @@ joined_line at out = pick (eqb at 0) out (laid_at at (32 ∷ []) out)
 abbrev pub jumped_to : ℕ → ℕ → ℕ → ℕ
 jumped_to pos len n = pick (ltb len pos) pos (pick (ltb (18446744073709551615 - pos) n) pos (pos + n))
 
--- `@POSITION/AVAILABLE`, of a cursor over `len` bytes
+-- `@POSITION/AVAILABLE`
 abbrev pub place_texts : ℕ → ℕ → List (List ℕ)
-place_texts pos len = counting (ascii "@") pos ++ counting (ascii "/") (left pos len)
+place_texts pos left = counting (ascii "@") pos ++ counting (ascii "/") left
