@@ -5,5 +5,5 @@ use Rattle.explain_client.proofs.client.Goals as goal
 
 pub returns-in-Request : goal.returns-in-Request
 returns-in-Request c =
-    let p = client_as _ _ _ _ _ _ _ _ c.in-Request.is (joined _ _ _ _ _ _ _ _ (one _ _ _ _ _ (c.text-at.ensures.value, c.text-at.ensures.out_after)) (c.request.ensures.value, c.request.ensures.out_after)) in
+    let p = client_as _ _ _ _ _ _ _ c.in-Request.is (joined _ _ _ _ _ _ _ _ (one _ _ _ _ _ (c.text-at.ensures.value, c.text-at.ensures.out_after)) (c.request.ensures.value, c.request.ensures.out_after)) in
     record { value = p.0; out_after = p.1 }
