@@ -1,13 +1,7 @@
 -- In a sound table no two handles are equal, and no two live slots overlap: a record that comes later has a higher handle, and its
 -- slot starts where the earlier one has ended. By induction down to the earlier record, and from there on to the later one.
-use Prim.Native.Nat.{ℕ, zero, suc, ◌+◌, ◌≤◌, ◌<◌}
-use mathlib.Core.Bool.{true}
-use mathlib.Core.Path.{◌≡◌}
-use mathlib.Core.List.{List, [], ◌∷◌}
-use native.Mathlib.Omega.{arith}
-use native.Mathlib.Nat.{not-suc-le-zero, le_of_suc-le-suc}
-use lib.ListN.{length, take, get_or}
-use borrow.Author.Tests.{leb-true, eqb-true}
+use Rattle.std.specs.Prelude.{ℕ, zero, suc, ◌+◌, ◌≤◌, ◌<◌, true, ◌≡◌, List, [], ◌∷◌, length, take, get_or}
+use Rattle.std.proofs.Common.{arith, not-suc-le-zero, le_of_suc-le-suc, leb-true, eqb-true}
 use Rattle.codec.specs.CasesLaws.{both}
 use Rattle.attributes.specs.Records.{slot_of, slot_size}
 use Rattle.attributes.specs.Soundness.{start_ok, space_ok, room_of, record_ok, slots_end, records_ok, sound_table}

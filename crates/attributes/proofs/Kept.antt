@@ -1,12 +1,7 @@
 -- In any store, slot bytes behind the value stay, and so do all bytes before the slot: the store lays the value over the slot's
 -- start, and by `slots_inside` the value ends within the live area.
-use Prim.Native.Nat.{ℕ, ◌+◌, ◌≤◌, ◌<◌}
-use mathlib.Core.Bool.{true}
-use mathlib.Core.Path.{◌≡◌, ◌∙◌, ap}
-use mathlib.Core.List.{List}
-use native.Mathlib.Omega.{arith}
-use lib.ListN.{length, take, drop, get_or}
-use borrow.Author.Tests.{le-leb}
+use Rattle.std.specs.Prelude.{ℕ, ◌+◌, ◌≤◌, ◌<◌, true, ◌≡◌, List, length, take, drop, get_or}
+use Rattle.std.proofs.Common.{◌∙◌, ap, arith, le-leb}
 use Rattle.codec.specs.CasesLaws.{impossible}
 use Rattle.codec.specs.Buffer.{over_at}
 use Rattle.attributes.specs.ListLaws.{over_at_before, over_at_behind}

@@ -1,8 +1,8 @@
 -- What soundness gives: the rules of a table and of each of its records as facts; handles rise, so no two are equal; slots stand
 -- one behind the other; no fixed attribute is writable.
 use Rattle.std.specs.Prelude.{ℕ, zero, suc, ◌+◌, ◌≤◌, ◌<◌, Bool, true, not, ◌≡◌, refl, List, [], ◌∷◌, length, take, get_or, eqb}
-use Rattle.std.proofs.Common.{arith, not-suc-le-zero, le_of_suc-le-suc}
-use borrow.Author.Tests.{leb-true, ltb-true, eqb-true, lt-ltb}
+use Rattle.std.proofs.Common.{arith, not-suc-le-zero, le_of_suc-le-suc, leb-true, ltb-true, eqb-true}
+use Rattle.std.proofs.lemmas.Bool.{lt-ltb}
 use Rattle.codec.specs.CasesLaws.{both, join}
 use Rattle.attributes.specs.Records.{Slot, Kept, Room, entries, slot_of, slot_size}
 use Rattle.attributes.specs.Soundness.{count_ok, live_ok, areas_ok, handle_ok, type_ok, size_ok, inside_ok, value_ok, space_ok, start_ok, length_ok, room_of, record_ok, slots_end, records_ok, sound_table}

@@ -1,11 +1,11 @@
 -- The first with a handle, of a list of anything that has one: what holds of it, and that a list made of another has it at the same
 -- place. And the record that is found at a handle: it counts, it has the handle, and it gives what the first one with the handle
 -- gives.
-use Rattle.std.specs.Prelude.{ℕ, zero, suc, ◌+◌, ◌<◌, min, Bool, ◌≡◌, refl, List, [], ◌∷◌, Some, None, map, length, take, get_or, leb, eqb, ◌==◌, cond, find}
+use Rattle.std.specs.Prelude.{ℕ, zero, suc, ◌+◌, ◌<◌, ◌≤◌, min, Bool, ◌≡◌, refl, List, [], ◌∷◌, Some, None, map, length, take, drop, get_or, leb, eqb, ◌==◌, cond, find}
 use Rattle.std.specs.Option.{option_map_or}
 use Rattle.std.specs.List.{position_from}
 use Rattle.std.proofs.Math.Bool.{true, false}
-use Rattle.std.proofs.Common.{sym, ◌∙◌, ap, arith, not-suc-le-zero, le_of_suc-le-suc, suc-le-suc, length-take, get_or-take, take_all, eqb-true, leb-true, leb-false}
+use Rattle.std.proofs.Common.{sym, ◌∙◌, ap, arith, not-suc-le-zero, le_of_suc-le-suc, suc-le-suc, add-one, drop-cons, drop_of_length-le, length-take, length-take-le, get_or-take, take_all, eq-eqb, ne_eqb, eqb-true, leb-true, leb-false}
 use Rattle.std.proofs.lemmas.List.Quantifiers.{position-Some}
 use Rattle.std.proofs.lemmas.Iterator.Adapters.{position_from-zero}
 use Rattle.codec.specs.CasesLaws.{impossible}
@@ -83,6 +83,28 @@ first_there handle h gives none [] i d p e f = absurd (not-suc-le-zero p)
 first_there handle h gives none (x ∷ l) zero d p e f = rw e
 first_there handle h gives none (x ∷ l) (suc i) d p e f =
     rw (f 0 (omega arith)) (first_there handle h gives none l i d (le_of_suc-le-suc p) e (λ k q. f (suc k) (suc-le-suc q)))
+
+-- a walk over the first `n` records, one at a time, by what is found from the record `i` on
+step : (h i n : ℕ) (l : List Record) (d : Record) → i < n → n ≤ length l
+    → position_from (λ (r : Record). r.handle == h) i (drop i (take n l))
+    ≡ cond (eqb (get_or l i d).handle h) (Some i) (position_from (λ (r : Record). r.handle == h) (i + 1) (drop (i + 1) (take n l)))
+step h i n l d p q =
+    let k : i < length (take n l) = rw (length-take-le n l) (omega arith) in
+    rw (drop-cons (take n l) i d k, get_or-take n l i d p, add-one i)
+
+pub find_here : (h i n : ℕ) (l : List Record) (d : Record) → i < n → n ≤ length l → (get_or l i d).handle ≡ h
+    → position_from (λ (r : Record). r.handle == h) i (drop i (take n l)) ≡ Some i
+find_here h i n l d p q e = step h i n l d p q ∙ rw (eq-eqb _ _ e)
+
+pub find_next : (h i n : ℕ) (l : List Record) (d : Record) → i < n → n ≤ length l → ((get_or l i d).handle ≡ h → ⊥)
+    → position_from (λ (r : Record). r.handle == h) i (drop i (take n l))
+    ≡ position_from (λ (r : Record). r.handle == h) (i + 1) (drop (i + 1) (take n l))
+find_next h i n l d p q e = step h i n l d p q ∙ rw (ne_eqb _ _ e)
+
+pub find_none : (h i n : ℕ) (l : List Record) → n ≤ i → n ≤ length l → position_from (λ (r : Record). r.handle == h) i (drop i (take n l)) ≡ None
+find_none h i n l p q =
+    let k : length (take n l) ≤ i = rw (length-take-le n l) p in
+    rw (drop_of_length-le (take n l) k)
 
 -- What is found among the first `n` records of an array, as code has them.
 module _ (h n i : ℕ) (l : List Record) (d : Record) (e : find_in h (take n l) ≡ Some i) where

@@ -1,10 +1,9 @@
 -- Laws of lists that the table needs: parts of lists that are equal in front or behind, bytes laid at a place, and a function on
 -- the first elements.
 use Rattle.std.specs.Prelude.{ℕ, zero, suc, ◌+◌, ◌-◌, ◌≤◌, ◌<◌, ◌≡◌, refl, List, [], ◌∷◌, ◌++◌, map, length, take, drop, get_or}
-use Rattle.std.proofs.Common.{sym, ◌∙◌, ap, append_assoc, arith, zero-add, suc-add, not-suc-le-zero, le_of_suc-le-suc, length-append, length-take, length-drop, length-take-le, take-take, take_at, drop_at, drop-drop}
+use Rattle.std.proofs.Common.{sym, ◌∙◌, ap, append_assoc, arith, length-append, length-take, length-drop, length-take-le, take-take, take_at, drop_at, drop-drop}
 use Rattle.std.proofs.Math.Path.{fun_ext}
-use Rattle.std.proofs.lemmas.List.{length-map, take-append-le}
-use Rattle.std.proofs.Math.Seq.{take-nil}
+use Rattle.std.proofs.lemmas.List.{drop-take, get_or_default, length-map, take-append-le}
 use Rattle.codec.specs.Buffer.{over_at}
 use Rattle.attributes.specs.Stores.{map_first}
 
@@ -23,23 +22,16 @@ length_map_first (suc n) f (x ∷ l) = ap suc (length_map_first n f l)
 
 -- what an element is does not depend on the default, where there is one
 pub any_default : {A : Type 0} (l : List A) (i : ℕ) (d e : A) → i < length l → get_or l i d ≡ get_or l i e
-any_default [] i d e h = absurd (not-suc-le-zero h)
-any_default (x ∷ l) zero d e h = refl
-any_default (x ∷ l) (suc i) d e h = any_default l i d e (le_of_suc-le-suc h)
+any_default l i d e h = get_or_default l i d e h
 
 -- the length of an array of structs: what a function knows of it stands under `map`
 pub length_mapped : (X Y : Type 0) (f : X → Y) (l : List X) (n : ℕ) → length (map f l) ≡ n → length l ≡ n
 length_mapped X Y f l n e = sym (length-map l f) ∙ e
 
-drop_take : (a n : ℕ) (l : List ℕ) → drop a (take (a + n) l) ≡ take n (drop a l)
-drop_take zero n l = rw zero-add
-drop_take (suc a) n [] = rw (take-nil (suc a + n), take-nil n)
-drop_take (suc a) n (x ∷ l) = rw (suc-add a n) (drop_take a n l)
-
 -- lists that are equal in front, or behind, have equal parts there
 pub part_of_front : (a n m : ℕ) (l k : List ℕ) → a + n ≤ m → take m l ≡ take m k → take n (drop a l) ≡ take n (drop a k)
 part_of_front a n m l k h e =
-    sym (drop_take a n l) ∙ ap (drop a) (sym (take-take (a + n) m l h) ∙ ap (take (a + n)) e ∙ take-take (a + n) m k h) ∙ drop_take a n k
+    sym (drop-take a n l) ∙ ap (drop a) (sym (take-take (a + n) m l h) ∙ ap (take (a + n)) e ∙ take-take (a + n) m k h) ∙ drop-take a n k
 
 pub part_of_back : (a p : ℕ) (l k : List ℕ) → p ≤ a → drop p l ≡ drop p k → drop a l ≡ drop a k
 part_of_back a p l k h e =

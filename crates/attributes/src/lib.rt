@@ -34,6 +34,7 @@ pub struct Record {
 }
 
 // The first `count` records, and the lengths of the two areas that the table was built for.
+// Kept: with no heap the records stand in an array with their count beside; `entries` lends those that count.
 #[derive(Clone, Copy)]
 pub struct Table {
     pub records: [Record; 64],
@@ -59,6 +60,7 @@ pub enum Room {
 }
 
 // An attribute to be added.
+// Kept: beside `Record`, and not one generic struct with it, since the theorems name both.
 #[derive(Clone, Copy)]
 pub struct Addition {
     pub handle: u16,

@@ -70,3 +70,17 @@ walked_sound t fl ll = by (record { last = last_handle 0 (entries t); used = use
     by : (w : Walked) (b : Bool) → is_some (pick b (Some w) None) ≡ b
     by w true = refl
     by w false = refl
+
+-- what a walk says of a table that is not sound, of one that is, and of one whose records tell whether it is
+pub walked_none : (t : Table) (fl ll : ℕ) → sound_table t fl ll ≡ false → walked_table t fl ll ≡ None
+unfolding walked_table
+walked_none t fl ll e = rw e
+
+pub walked_is : (t : Table) (fl ll : ℕ) → sound_table t fl ll ≡ true
+    → walked_table t fl ll ≡ Some (record { last = last_handle 0 (entries t); used = used 0 (entries t) })
+unfolding walked_table
+walked_is t fl ll e = rw e
+
+pub walked_all : (t : Table) (fl ll : ℕ) → records_ok fl ll 0 0 (entries t) ≡ sound_table t fl ll → walk_from fl ll begun (entries t) ≡ walked_table t fl ll
+unfolding walked_table
+walked_all t fl ll e = rw (walk_is fl ll begun (entries t), e)

@@ -1,12 +1,14 @@
 -- The till's own store, at each of its tests: what it answers, and the live bytes after it.
-use Rattle.std.specs.Prelude.{ℕ, ◌≤◌, ◌<◌, Bool, ◌≡◌, refl, List, Result, Ok, Err, Some, None, length, leb}
+use Rattle.std.specs.Prelude.{ℕ, ◌+◌, ◌-◌, ◌≤◌, ◌<◌, Bool, ◌≡◌, refl, List, ◌++◌, Result, Ok, Err, Some, None, length, take, drop, leb}
 use Rattle.std.proofs.Math.Bool.{true, false}
-use Rattle.std.proofs.Common.{sym, ap, ◌∙◌, arith}
-use Rattle.codec.specs.Buffer.{over_at}
+use Rattle.std.proofs.Common.{sym, ap, ◌∙◌, arith, le-leb, leb-true, length-drop, take-append-drop}
+use Rattle.std.proofs.lemmas.Bool.{lt-leb, leb-false}
+use Rattle.codec.specs.Buffer.{over_at, laid, laid_at}
+use Rattle.codec.specs.BufferLaws.{to_the_end, lent_back, laid_at_lem, kept_at}
 use Rattle.codec.specs.Cases.{pick}
 use Rattle.codec.specs.CasesLaws.{impossible}
 use Rattle.codec.specs.declared.Refusal.{Refusal}
-use Rattle.codec.specs.declared.Refusal.TheVariants.{UnknownHandle, TooLong, BadTable}
+use Rattle.codec.specs.declared.Refusal.TheVariants.{UnknownHandle, NotStorable, TooLong, BadTable}
 use Rattle.attributes.proofs.Apart.{Ends, slots_inside}
 use Rattle.attributes.proofs.SoundnessLaws.{Sound, sound_parts}
 use Rattle.attributes.proofs.StoreLaws.{store_sets, store_lays, own_tests_lem}
@@ -34,15 +36,36 @@ ends_there : (ll : ℕ) (p : Place) → Ends ll p → slot_end p ≤ ll
 ends_there ll (Fixed a n) k = omega arith
 ends_there ll (Live a c n) k = k
 
-module _ (t : Table) (h : ℕ) (v fixed live : List ℕ) where
-  module _ (s : sound_table t (length fixed) (length live) ≡ false) where
-    pub bad_answer : Err BadTable ≡ stored t h v fixed live
-    unfolding stored
-    bad_answer = rw (own_tests_lem t h (length v) fixed live false s)
+-- a store into the record with the number `i`, by its place
+module _ (t : Table) (i : ℕ) (v live : List ℕ) where
+  pub as_fixed : (a n : ℕ) → (numbered t i).place ≡ Fixed a n → (Err NotStorable ≡ stored_as t i v) × (live ≡ stored_as_live t i v live)
+  unfolding stored_as stored_as_live
+  as_fixed a n e = rw e (refl, refl)
 
-    pub bad_live : live ≡ stored_live t h v fixed live
-    unfolding stored_live
-    bad_live = rw (own_tests_lem t h (length v) fixed live false s)
+  pub as_long : (a c n : ℕ) → (numbered t i).place ≡ Live a c n → c < length v → (Err TooLong ≡ stored_as t i v) × (live ≡ stored_as_live t i v live)
+  unfolding stored_as stored_as_live
+  as_long a c n e h = rw (e, lt-leb (length v) c h) (refl, refl)
+
+  pub as_done : (a c n : ℕ) → (numbered t i).place ≡ Live a c n → length v ≤ c
+      → (Ok (with_record t i (lengthened (numbered t i) (length v))) ≡ stored_as t i v) × (over_at a v live ≡ stored_as_live t i v live)
+  unfolding stored_as stored_as_live
+  as_done a c n e h =
+      let k : slot_refusal (length v) (slot_of (numbered t i).place) ≡ Ok tt = ap (λ (p : Place). slot_refusal (length v) (slot_of p)) e ∙ rw (le-leb (length v) c h) in (
+        sym (ap (λ (o : Result Unit Refusal). changed_by o (with_record t i (lengthened (numbered t i) (length v)))) k),
+        sym (ap (λ (p : Place). over_at (start p) v live) e) ∙ sym (ap (λ (o : Result Unit Refusal). live_by o (over_at (start (numbered t i).place) v live) live) k),
+      )
+
+module _ (t : Table) (h : ℕ) (v fixed live : List ℕ) where
+  pub store_bad : sound_table t (length fixed) (length live) ≡ false
+      → (Err BadTable ≡ stored t h v fixed live) × (live ≡ stored_live t h v fixed live)
+  unfolding stored stored_live
+  store_bad s = rw (own_tests_lem t h (length v) fixed live false s) (refl, refl)
+
+  pub bad_answer : sound_table t (length fixed) (length live) ≡ false → Err BadTable ≡ stored t h v fixed live
+  bad_answer s = (store_bad s).0
+
+  pub bad_live : sound_table t (length fixed) (length live) ≡ false → live ≡ stored_live t h v fixed live
+  bad_live s = (store_bad s).1
 
   module _ (s : sound_table t (length fixed) (length live) ≡ true) where
     own_is : (o : Result Unit Refusal) → store_refusal h (length v) (ledger_of t fixed live) ≡ o
@@ -50,16 +73,16 @@ module _ (t : Table) (h : ℕ) (v fixed live : List ℕ) where
     unfolding stored stored_live
     own_is o e = rw (own_tests_lem t h (length v) fixed live true s, e) (refl, refl)
 
-    missing : find_in h (entries t) ≡ None → (Err UnknownHandle ≡ stored t h v fixed live) × (live ≡ stored_live t h v fixed live)
-    missing e = own_is (Err UnknownHandle)
+    pub store_missing : find_in h (entries t) ≡ None → (Err UnknownHandle ≡ stored t h v fixed live) × (live ≡ stored_live t h v fixed live)
+    store_missing e = own_is (Err UnknownHandle)
         (item_first fixed live h (λ (i : Item). slot_refusal (length v) i.slot) (Err UnknownHandle) (entries t)
         ∙ missing_gives h (λ (r : Record). slot_refusal (length v) (slot_of r.place)) (Err UnknownHandle) (entries t) e)
 
     pub missing_answer : find_in h (entries t) ≡ None → Err UnknownHandle ≡ stored t h v fixed live
-    missing_answer e = (missing e).0
+    missing_answer e = (store_missing e).0
 
     pub missing_live : find_in h (entries t) ≡ None → live ≡ stored_live t h v fixed live
-    missing_live e = (missing e).1
+    missing_live e = (store_missing e).1
 
     module _ (i : ℕ) (e : find_in h (entries t) ≡ Some i) (full : length t.records ≡ 64) where
       abbrev r : Record
@@ -82,9 +105,9 @@ module _ (t : Table) (h : ℕ) (v fixed live : List ℕ) where
           item_first fixed live h (λ (j : Item). slot_refusal (length v) j.slot) (Err UnknownHandle) (entries t)
           ∙ found_gives h t.count i t.records blank e (λ (q : Record). slot_refusal (length v) (slot_of q.place)) (Err UnknownHandle)
 
-      found : (stored_as t i v ≡ stored t h v fixed live) × (stored_as_live t i v live ≡ stored_live t h v fixed live)
+      pub store_there : (stored_as t i v ≡ stored t h v fixed live) × (stored_as_live t i v live ≡ stored_live t h v fixed live)
       unfolding stored_as stored_as_live
-      found = by (slot_refusal (length v) (slot_of r.place)) refl
+      store_there = by (slot_refusal (length v) (slot_of r.place)) refl
         where
           by : (o : Result Unit Refusal) → slot_refusal (length v) (slot_of r.place) ≡ o
               → (stored_as t i v ≡ stored t h v fixed live) × (stored_as_live t i v live ≡ stored_live t h v fixed live)
@@ -105,7 +128,27 @@ module _ (t : Table) (h : ℕ) (v fixed live : List ℕ) where
               )
 
       pub found_answer : stored_as t i v ≡ stored t h v fixed live
-      found_answer = found.0
+      found_answer = store_there.0
 
       pub found_live : stored_as_live t i v live ≡ stored_live t h v fixed live
-      found_live = found.1
+      found_live = store_there.1
+
+-- Bytes laid from a place on: a place past the end; and the part from there on, lent and come back with the bytes or without.
+pub lay_outside : (at : ℕ) (v l : List ℕ) → length l < at → l ≡ laid_at at v l
+lay_outside at v l h = sym (kept_at at v l (omega arith))
+
+pub lay_back : (at : ℕ) (v l w : List ℕ) → at ≤ length l → w ≡ laid v (take (length l - at) (drop at l))
+    → take at l ++ (w ++ drop (length l - at) (drop at l)) ≡ laid_at at v l
+lay_back at v l w h e = by (leb (at + length v) (length l)) refl
+  where
+    size : length (take (length l - at) (drop at l)) ≡ length l - at
+    size = ap length (to_the_end at l) ∙ length-drop at l
+
+    by : (b : Bool) → leb (at + length v) (length l) ≡ b → take at l ++ (w ++ drop (length l - at) (drop at l)) ≡ laid_at at v l
+    by true k =
+        let r = leb-true (at + length v) (length l) k in
+        lent_back v l w at (e ∙ rw (le-leb (length v) (length (take (length l - at) (drop at l))) (omega (arith, size)))) ∙ sym (laid_at_lem at v l r)
+    by false k =
+        let r = leb-false (at + length v) (length l) k in
+        let same : w ≡ take (length l - at) (drop at l) = e ∙ rw (lt-leb (length v) (length (take (length l - at) (drop at l))) (omega (arith, size))) in
+        rw same (rw (take-append-drop (length l - at) (drop at l), take-append-drop at l) (sym (kept_at at v l r)))
