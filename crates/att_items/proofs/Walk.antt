@@ -10,8 +10,8 @@ use lib.ListN.{length, take, drop, length-drop}
 use lib.Seq.{drop-drop, take-take, take-nil, length-take-le}
 use lib.Dec.{leb, eqb}
 use borrow.Author.Tests.{leb-true, leb-false, le-leb}
+use Rattle.std.specs.Prelude.{None}
 use Rattle.codec.specs.Cases.{pick}
-use Rattle.ble_uuid.specs.Uuids.{no_uuid}
 use Rattle.att.specs.Wire as wire
 use Rattle.att.specs.Wire.{Tail, first, by_format, rows, shape_of, send, tail_decodes, Sent, NotSent}
 use Rattle.att.specs.Items.{stretches, items, each_of, items_of}
@@ -20,9 +20,7 @@ use Rattle.att.specs.declared.Span.{Span}
 use Rattle.att.specs.declared.FindInformationUuidFormat.{FindInformationUuidFormat}
 use Rattle.att.specs.declared.AttRsp.{AttRsp}
 use Rattle.att.specs.declared.AttRsp.TheVariants as rsp
-use Rattle.att_items.specs.Iterators.{sent, fitted, item_shown, onward, walk}
-use Rattle.att_items.specs.declared.Step.{Step}
-use Rattle.att_items.specs.declared.Step.TheVariants.{Item, End}
+use Rattle.att_items.specs.Iterators.{sent, fitted, item_shown, item_at, onward, walk, Step}
 use Rattle.att_items.proofs.StepLaws.{sent_range}
 
 drop_take : (p n : ℕ) (l : List ℕ) → drop p (take n l) ≡ take (n - p) (drop p l)
@@ -50,7 +48,7 @@ stretched (suc n) each at len pos src step w h k = by (leb (pos + each) len) ref
       → onward (step pos) src (walk n step src) ≡ stretches ((len - pos) / each) each (drop pos l)
   by true e more =
       let g : pos + each ≤ len = leb-true (pos + each) len e in
-      let i : step pos ≡ Item (at + pos) each (pos + each) = w pos ∙ rw (le-leb 2 each h, e) in
+      let i : step pos ≡ item_at (at + pos) each (pos + each) = w pos ∙ rw (le-leb 2 each h, e) in
       let z : len - pos - each ≡ len - (pos + each) = omega arith in
       let d : (len - pos) / each ≡ suc ((len - (pos + each)) / each) =
       div-eq-sub-div {m = each} {n = len - pos} (omega arith) (omega arith) ∙ ap (λ (m : ℕ). m / each + 1) z ∙ omega arith in
@@ -58,7 +56,7 @@ stretched (suc n) each at len pos src step w h k = by (leb (pos + each) len) ref
       ∙ rw (more g, cut each at len pos src g, ← drop-drop each pos l, d)
   by false e more =
       let g : len < pos + each = leb-false (pos + each) len e in
-      let i : step pos ≡ End = w pos ∙ rw (le-leb 2 each h, e) in
+      let i : step pos ≡ None = w pos ∙ rw (le-leb 2 each h, e) in
       let d : (len - pos) / each ≡ 0 = div-eq_of_lt {n = len - pos} {m = each} (omega arith) in
       ap (λ (q : Step). onward q src (walk n step src)) i ∙ rw d
 
@@ -69,46 +67,46 @@ passed true false x h = h
 passed false true x h = refl
 passed false false x h = h
 
-row_passed : (s : Shown) (src : List ℕ) → sent (encoded_shown s no_uuid src) ≡ true
-    → tail_decodes (shape_of s.opcode).tail s.numbers (tail_of (shape_of s.opcode).tail no_uuid (part_of s.part src)) ≡ true
+row_passed : (s : Shown) (src : List ℕ) → sent (encoded_shown s src) ≡ true
+    → tail_decodes (shape_of s.opcode).tail s.numbers (tail_of (shape_of s.opcode).tail s.uuid (part_of s.part src)) ≡ true
 unfolding encoded_shown send means_shown
 row_passed s src h = passed (part_ok s.part src) _ _ h
 
 -- the items of a packet that is sent, whose row has items, walked by an iterator that is for it
 pub walk_gives_the_items : (a b : ℕ) (s : Shown) (src : List ℕ) (n : ℕ) (each : List ℕ → ℕ) (least : ℕ)
-    → (shape_of s.opcode).tail ≡ wire.Items each least → sent (encoded_shown s no_uuid src) ≡ true → (eqb s.opcode a || eqb s.opcode b) ≡ true
-    → length src ≤ n → walk n (item_shown a b s src) src 0 ≡ items_of (means_shown s no_uuid src)
+    → (shape_of s.opcode).tail ≡ wire.Items each least → sent (encoded_shown s src) ≡ true → (eqb s.opcode a || eqb s.opcode b) ≡ true
+    → length src ≤ n → walk n (item_shown a b s src) src 0 ≡ items_of (means_shown s src)
 unfolding item_shown items_of items means_shown
 walk_gives_the_items a b s src n each least e h g k =
     let ns = s.numbers in
     let d = s.part in
-    let r = sent_range s no_uuid src h in
+    let r = sent_range s src h in
     let o : 2 ≤ each ns =
-    leb-true 2 (each ns) (sym (ap (λ (t : Tail). tail_decodes t ns (tail_of t no_uuid (part_of d src))) e) ∙ row_passed s src h) in
+    leb-true 2 (each ns) (sym (ap (λ (t : Tail). tail_decodes t ns (tail_of t s.uuid (part_of d src))) e) ∙ row_passed s src h) in
     let f : (q : ℕ) → item_shown a b s src q ≡ fitted (each ns) d.at d.len q =
     λ q. rw (h, g) (ap (λ (t : Tail). fitted (each_of t ns) d.at d.len q) e) in
     let m : length (part_of d src) ≡ d.len - 0 =
     length-take-le d.len (drop d.at src) (simp length-drop (omega (arith, r.0, r.1))) ∙ omega arith in
     stretched n (each ns) d.at d.len 0 src (item_shown a b s src) f o (omega (arith, r.0, r.1))
-    ∙ sym (ap (λ (t : Tail). items (each_of t ns) (tail_of t no_uuid (part_of d src))) e ∙ ap (λ (c : ℕ). stretches (c / each ns) (each ns) (part_of d src)) m)
+    ∙ sym (ap (λ (t : Tail). items (each_of t ns) (tail_of t s.uuid (part_of d src))) e ∙ ap (λ (c : ℕ). stretches (c / each ns) (each ns) (part_of d src)) m)
 
 -- another packet, and one that is not sent, has no item at any position
-pub other_packet_ends : (a b : ℕ) (s : Shown) (src : List ℕ) (pos : ℕ) → (eqb s.opcode a || eqb s.opcode b) ≡ false → item_shown a b s src pos ≡ End
+pub other_packet_ends : (a b : ℕ) (s : Shown) (src : List ℕ) (pos : ℕ) → (eqb s.opcode a || eqb s.opcode b) ≡ false → item_shown a b s src pos ≡ None
 unfolding item_shown
-other_packet_ends a b s src pos g = rw g (by (sent (encoded_shown s no_uuid src))) where
-  by : (t : Bool) → pick t End End ≡ End
+other_packet_ends a b s src pos g = rw g (by (sent (encoded_shown s src))) where
+  by : (t : Bool) → ◌≡◌ {A = Step} (pick t None None) None
   by true = refl
   by false = refl
 
-pub not_sent_ends : (a b : ℕ) (s : Shown) (src : List ℕ) (pos : ℕ) → encoded_shown s no_uuid src ≡ NotSent → item_shown a b s src pos ≡ End
+pub not_sent_ends : (a b : ℕ) (s : Shown) (src : List ℕ) (pos : ℕ) → encoded_shown s src ≡ NotSent → item_shown a b s src pos ≡ None
 unfolding item_shown
 not_sent_ends a b s src pos e = rw e
 
 -- so it is for the four packets that have items, each with its own iterator
 abbrev Walked : ℕ → ℕ → AttRsp → Type 0
 Walked a b r =
-    (src : List ℕ) (n : ℕ) → sent (encoded_shown (show_rsp r) no_uuid src) ≡ true → length src ≤ n
-    → walk n (item_shown a b (show_rsp r) src) src 0 ≡ items_of (means_shown (show_rsp r) no_uuid src)
+    (src : List ℕ) (n : ℕ) → sent (encoded_shown (show_rsp r) src) ≡ true → length src ≤ n
+    → walk n (item_shown a b (show_rsp r) src) src 0 ≡ items_of (means_shown (show_rsp r) src)
 
 pub information_walked : (f : FindInformationUuidFormat) (d : Span) → Walked 0x05 0x05 (rsp.FindInformation f d)
 unfolding shape_of rows

@@ -1,14 +1,16 @@
--- The item found lies within the received bytes, and its bytes are read by the function of one item.
-use Rattle.std.proofs.Common.{ℕ, List, drop, refl, ◌∙◌}
+-- The item found lies within the received bytes, and its rest stands behind the handle.
+use Rattle.std.proofs.Common.{ap, drop, ◌∙◌}
 use Rattle.cursor.proofs.ReadingLaws.{rest_drop}
 use Rattle.att.specs.Typed.{show_att}
-use Rattle.att_items.specs.Iterators.{rest_of}
-use Rattle.att_items.specs.declared.Step.{Step}
-use Rattle.att_items.proofs.StepLaws.{of_item}
+use Rattle.att_items.specs.Iterators.{Step, rest_of}
+use Rattle.att_items.proofs.StepLaws.{cut}
 use Rattle.att_items.proofs.read_by_type_rest.Goals as goal
 
-pub returns-in-Item : goal.returns-in-Item
-returns-in-Item c =
+pub returns-in-Some : goal.returns-in-Some
+returns-in-Some c =
     let x = c.args in
-    c.remaining.ensures ∙ rest_drop 2 c.slice.result.now ∙
-    of_item 0x09 0x11 (show_att x.att) x.src.now x.pos c.item-s.ensures (λ (q : Step). rest_of q x.src.now) (λ (y : List ℕ). drop 2 y) _ _ _ _ refl c.in-Item.is c.slice.ensures
+    let e = c.in-Some.ensures in
+    c.remaining.ensures
+    ∙ rest_drop 2 c.slice.result.now
+    ∙ ap (drop 2) (cut 0x09 0x11 (show_att x.att) x.src.now x.pos c.in-Some.i e _ c.slice.ensures)
+    ∙ ap (λ (q : Step). rest_of q x.src.now) e
