@@ -55,7 +55,7 @@ fn chomp(line: &[u8]) -> &[u8]
     ensures { result.now ≡ uncarriaged line.now }
 {
     match line {
-        [rest @ .., last] if *last == b'\r' => rest,
+        [rest @ .., b'\r'] => rest,
         _ => line,
     }
 }
