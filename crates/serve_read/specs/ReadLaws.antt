@@ -1,5 +1,5 @@
 -- The replies to 0A and 0C, told by what the link may do at the handle and by the value held there.
-use Rattle.std.specs.Prelude.{ℕ, ◌-◌, ◌≤◌, ◌<◌, min, Bool, true, false, ◌≡◌, refl, length, take, drop, leb}
+use Rattle.std.specs.Prelude.{ℕ, ◌-◌, ◌≤◌, ◌<◌, min, Bool, true, false, ◌≡◌, refl, length, take, drop, leb, Result, Ok, Err}
 use Rattle.std.proofs.Common.{sym, ◌∙◌, arith, length-drop, take_all, le-leb, leb-true, leb-false}
 use Rattle.std.proofs.Math.Path.{ap}
 use mathlib.Core.List.{List, []}
@@ -11,13 +11,8 @@ use Rattle.att.specs.Wire.{rows, shape_of, send, meaning}
 use Rattle.att.specs.declared.AttRsp.TheVariants as rsp
 use Rattle.attributes.specs.Ledger.{ledger_of, value_at}
 use Rattle.attributes.specs.Records.{entries}
-use Rattle.attributes.specs.declared.Table.{Table}
-use Rattle.serve_record.specs.declared.Permission.{Permission}
-use Rattle.serve_record.specs.declared.Permission.TheVariants.{Allowed, Denied}
-use Rattle.answers.specs.Contract.{state_of}
 use Rattle.answers.specs.Replies.{Packet, only, error, error_packet, value_told, blob_told, read_reply, blob_reply}
-use Rattle.answers.specs.Serve.{views, ledger}
-use Rattle.answers.specs.declared.Link.{Link}
+use Rattle.answers.specs.Serve.{State, views, ledger}
 use Rattle.serve_permit.specs.Permit.{read_at}
 use Rattle.serve_permit.specs.PermitLaws.{reading_by, read_is}
 use Rattle.serve_tell.specs.Tell.{packet_of, coded_of}
@@ -50,45 +45,45 @@ module _ (m at n : ℕ) (v : List ℕ) (h : at ≤ length v) (e : n ≡ min m (l
   blob_sent =
       packet_is (rsp.ReadBlob (span at n)) v (part_fits at n v h (omega arith)) ∙ ap (λ (b : List ℕ). send (meaning 0x0D [] b)) part_is
 
-module _ (t : Table) (l : Link) (h : ℕ) (fixed live : List ℕ) where
+module _ (s : State) (h : ℕ) where
   abbrev held : List ℕ
-  held = value_at h (ledger_of t fixed live)
+  held = value_at h (ledger_of s.table s.fixed s.live)
 
-  read_by : (p : Permission) → read_at l.encrypted h (entries t) ≡ p → read_reply (views (state_of t l fixed live)) l h
-      ≡ reading_by 0x0A h (value_told l) held p
+  read_by : (p : Result Unit AttErrorCode) → read_at s.link.encrypted h (entries s.table) ≡ p → read_reply (views s) s.link h
+      ≡ reading_by 0x0A h (value_told s.link) held p
   unfolding read_reply ledger
   read_by p e =
-      read_is l.encrypted fixed live 0x0A h (value_told l) (entries t)
-      ∙ ap (reading_by 0x0A h (value_told l) held) e
+      read_is s.link.encrypted s.fixed s.live 0x0A h (value_told s.link) (entries s.table)
+      ∙ ap (reading_by 0x0A h (value_told s.link) held) e
 
-  pub read_denied : (c : AttErrorCode) → read_at l.encrypted h (entries t) ≡ Denied c
-      → send (error_packet 0x0A h c.value) ≡ coded_of (read_reply (views (state_of t l fixed live)) l h)
-  read_denied c e = sym (ap coded_of (read_by (Denied c) e))
+  pub read_denied : (c : AttErrorCode) → read_at s.link.encrypted h (entries s.table) ≡ Err c
+      → send (error_packet 0x0A h c.value) ≡ coded_of (read_reply (views s) s.link h)
+  read_denied c e = sym (ap coded_of (read_by (Err c) e))
 
-  pub read_allowed : (v : List ℕ) (n : ℕ) → read_at l.encrypted h (entries t) ≡ Allowed → v ≡ held → n ≡ min (l.mtu - 1) (length v)
-      → packet_of (rsp.Read (span 0 n)) v ≡ coded_of (read_reply (views (state_of t l fixed live)) l h)
+  pub read_allowed : (v : List ℕ) (n : ℕ) → read_at s.link.encrypted h (entries s.table) ≡ Ok tt → v ≡ held → n ≡ min (s.link.mtu - 1) (length v)
+      → packet_of (rsp.Read (span 0 n)) v ≡ coded_of (read_reply (views s) s.link h)
   read_allowed v n e f g =
-      read_sent (l.mtu - 1) 0 n v (omega arith) (omega (arith, g))
-      ∙ ap (λ (b : List ℕ). send (meaning 0x0B [] (take (l.mtu - 1) b))) f ∙ sym (ap coded_of (read_by Allowed e))
+      read_sent (s.link.mtu - 1) 0 n v (omega arith) (omega (arith, g))
+      ∙ ap (λ (b : List ℕ). send (meaning 0x0B [] (take (s.link.mtu - 1) b))) f ∙ sym (ap coded_of (read_by (Ok tt) e))
 
   module _ (offset : ℕ) where
-    blob_by : (p : Permission) → read_at l.encrypted h (entries t) ≡ p
-        → blob_reply (views (state_of t l fixed live)) l h offset ≡ reading_by 0x0C h (blob_told l h offset) held p
+    blob_by : (p : Result Unit AttErrorCode) → read_at s.link.encrypted h (entries s.table) ≡ p
+        → blob_reply (views s) s.link h offset ≡ reading_by 0x0C h (blob_told s.link h offset) held p
     unfolding blob_reply ledger
-    blob_by p e = read_is l.encrypted fixed live 0x0C h (blob_told l h offset) (entries t) ∙ ap (reading_by 0x0C h (blob_told l h offset) held) e
+    blob_by p e = read_is s.link.encrypted s.fixed s.live 0x0C h (blob_told s.link h offset) (entries s.table) ∙ ap (reading_by 0x0C h (blob_told s.link h offset) held) e
 
-    pub blob_denied : (c : AttErrorCode) → read_at l.encrypted h (entries t) ≡ Denied c
-        → send (error_packet 0x0C h c.value) ≡ coded_of (blob_reply (views (state_of t l fixed live)) l h offset)
-    blob_denied c e = sym (ap coded_of (blob_by (Denied c) e))
+    pub blob_denied : (c : AttErrorCode) → read_at s.link.encrypted h (entries s.table) ≡ Err c
+        → send (error_packet 0x0C h c.value) ≡ coded_of (blob_reply (views s) s.link h offset)
+    blob_denied c e = sym (ap coded_of (blob_by (Err c) e))
 
-    pub blob_past : (v : List ℕ) → read_at l.encrypted h (entries t) ≡ Allowed → v ≡ held → length v < offset
-        → send (error_packet 0x0C h 0x07) ≡ coded_of (blob_reply (views (state_of t l fixed live)) l h offset)
+    pub blob_past : (v : List ℕ) → read_at s.link.encrypted h (entries s.table) ≡ Ok tt → v ≡ held → length v < offset
+        → send (error_packet 0x0C h 0x07) ≡ coded_of (blob_reply (views s) s.link h offset)
     blob_past v e f g =
-        let z : blob_told l h offset v ≡ error 0x0C h 0x07 = rw (lt-leb offset (length v) g) in
-        sym (ap coded_of (blob_by Allowed e ∙ ap (blob_told l h offset) (sym f) ∙ z))
+        let z : blob_told s.link h offset v ≡ error 0x0C h 0x07 = rw (lt-leb offset (length v) g) in
+        sym (ap coded_of (blob_by (Ok tt) e ∙ ap (blob_told s.link h offset) (sym f) ∙ z))
 
-    pub blob_allowed : (v : List ℕ) (n : ℕ) → read_at l.encrypted h (entries t) ≡ Allowed → v ≡ held → offset ≤ length v
-        → n ≡ min (l.mtu - 1) (length v - offset) → packet_of (rsp.ReadBlob (span offset n)) v ≡ coded_of (blob_reply (views (state_of t l fixed live)) l h offset)
+    pub blob_allowed : (v : List ℕ) (n : ℕ) → read_at s.link.encrypted h (entries s.table) ≡ Ok tt → v ≡ held → offset ≤ length v
+        → n ≡ min (s.link.mtu - 1) (length v - offset) → packet_of (rsp.ReadBlob (span offset n)) v ≡ coded_of (blob_reply (views s) s.link h offset)
     blob_allowed v n e f k g =
-        let z : blob_told l h offset v ≡ only (Packet (meaning 0x0D [] (take (l.mtu - 1) (drop offset v)))) = rw (le-leb offset (length v) k) in
-        blob_sent (l.mtu - 1) offset n v k g ∙ sym (ap coded_of (blob_by Allowed e ∙ ap (blob_told l h offset) (sym f) ∙ z))
+        let z : blob_told s.link h offset v ≡ only (Packet (meaning 0x0D [] (take (s.link.mtu - 1) (drop offset v)))) = rw (le-leb offset (length v) k) in
+        blob_sent (s.link.mtu - 1) offset n v k g ∙ sym (ap coded_of (blob_by (Ok tt) e ∙ ap (blob_told s.link h offset) (sym f) ∙ z))

@@ -3,7 +3,6 @@
 use Rattle.std.specs.Prelude.{ℕ, Bool, true, false, List, length, leb}
 use Rattle.codec.specs.Buffer.{over, laid}
 use Rattle.codec.specs.Cases.{pick}
-use Rattle.ble_uuid.specs.Uuids.{no_uuid}
 use Rattle.att.specs.Wire.{Coded, Sent, NotSent, send}
 use Rattle.att.specs.Typed.{encoded, show_rsp, part_ok, means_shown}
 use Rattle.att.specs.declared.Att.TheVariants.{Server}
@@ -18,10 +17,10 @@ wrote n meant = record { len = n; meant = meant }
 
 -- a typed answer as the wire sends it, and as the encoder has it: that also asks for a length which the machine can count
 unfoldable pub packet_of : AttRsp → List ℕ → Coded
-packet_of rsp src = pick (part_ok (show_rsp rsp).part src) (send (means_shown (show_rsp rsp) no_uuid src)) NotSent
+packet_of rsp src = pick (part_ok (show_rsp rsp).part src) (send (means_shown (show_rsp rsp) src)) NotSent
 
 unfoldable pub encoded_of : AttRsp → List ℕ → Coded
-encoded_of rsp src = encoded (Server (Response rsp)) no_uuid src
+encoded_of rsp src = encoded (Server (Response rsp)) src
 
 abbrev pub unlikely_wrote : ℕ → ℕ → Wrote
 unlikely_wrote op room = pick (leb (length (unlikely op)) room) (wrote (length (unlikely op)) false) (wrote 0 false)

@@ -1,5 +1,6 @@
 -- The encoder's two answers, each with what goes out; and the error that goes out is always sendable.
-use Rattle.std.specs.Prelude.{ℕ, ◌<◌, ◌^◌, Bool, ◌≡◌, refl, List, [], length, leb, ltb}
+use Rattle.std.specs.Prelude.{ℕ, ◌<◌, ◌^◌, Bool, ◌≡◌, refl, List, [], length, leb, ltb, Result, Ok, Err}
+use Rattle.std.specs.Result.{result_unwrap_or}
 use Rattle.std.proofs.Math.Bool.{true, false}
 use Rattle.std.proofs.Common.{ap, ◌∙◌, arith, ltb-false}
 use Rattle.std.proofs.lemmas.Bool.{lt-leb}
@@ -8,9 +9,7 @@ use Rattle.codec.specs.Buffer.{over, laid, written}
 use Rattle.codec.specs.Cases.{pick}
 use Rattle.codec.specs.declared.Error.{Error}
 use Rattle.codec.specs.declared.Error.TheVariants.{InsufficientSpace}
-use Rattle.codec.specs.declared.Written.TheVariants.{Done, Refused}
 use Rattle.att.specs.Wire.{rows, shape_of, Coded, Sent, NotSent, send}
-use Rattle.ble_uuid.specs.Uuids.{no_uuid}
 use Rattle.att.specs.Typed.{code, countable, show_rsp, part_ok, means_shown, encoded_shown, written_of, laid_of}
 use Rattle.att_error.specs.declared.AttErrorCode.{AttErrorCode}
 use Rattle.att.specs.declared.AttRsp.{AttRsp}
@@ -21,18 +20,18 @@ use Rattle.serve_tell.specs.Tell.{wrote, packet_of, encoded_of, unlikely_wrote, 
 use Rattle.serve_tell.specs.declared.Wrote.{Wrote}
 
 module _ (op : ℕ) (out : List ℕ) where
-  pub done_tells : (c : Coded) (n : ℕ) → written_of c out ≡ Done n → (wrote n true ≡ wrote_by c op (length out)) × (laid_of c out ≡ out_by c op out)
+  pub done_tells : (c : Coded) (n : ℕ) → written_of c out ≡ Ok n → (wrote n true ≡ wrote_by c op (length out)) × (laid_of c out ≡ out_by c op out)
   done_tells (Sent b) n e = by (leb (length b) (length out)) e where
-    by : (t : Bool) → pick t (Done (length b)) (Refused InsufficientSpace) ≡ Done n
+    by : (t : Bool) → pick t (Ok (length b)) (Err InsufficientSpace) ≡ Ok n
         → (wrote n true ≡ pick t (wrote (length b) true) (unlikely_wrote op (length out))) × (pick t (over b out) out ≡ pick t (over b out) (laid (unlikely op) out))
     by true q = let m : length b ≡ n = cc in (rw m, refl)
     by false q = impossible (cc)
   done_tells NotSent n e = impossible (cc)
 
-  pub refused_tells : (c : Coded) (w : Error) → written_of c out ≡ Refused w
+  pub refused_tells : (c : Coded) (w : Error) → written_of c out ≡ Err w
       → (laid_of c out ≡ out) × ((wrote_by c op (length out) ≡ unlikely_wrote op (length out)) × (out_by c op out ≡ laid (unlikely op) out))
   refused_tells (Sent b) w e = by (leb (length b) (length out)) e where
-    by : (t : Bool) → pick t (Done (length b)) (Refused InsufficientSpace) ≡ Refused w
+    by : (t : Bool) → pick t (Ok (length b)) (Err InsufficientSpace) ≡ Err w
         → (pick t (over b out) out ≡ out)
         × ((pick t (wrote (length b) true) (unlikely_wrote op (length out)) ≡ unlikely_wrote op (length out))
         × (pick t (over b out) (laid (unlikely op) out) ≡ laid (unlikely op) out))
@@ -40,19 +39,27 @@ module _ (op : ℕ) (out : List ℕ) where
     by false q = (refl, (refl, refl))
   refused_tells NotSent w e = (refl, (refl, refl))
 
-  pub unlikely_done : (n : ℕ) → written (unlikely op) out ≡ Done n → wrote n false ≡ unlikely_wrote op (length out)
+  pub unlikely_done : (n : ℕ) → written (unlikely op) out ≡ Ok n → wrote n false ≡ unlikely_wrote op (length out)
   unlikely_done n e = by (leb (length (unlikely op)) (length out)) e where
-    by : (t : Bool) → pick t (Done (length (unlikely op))) (Refused InsufficientSpace) ≡ Done n
+    by : (t : Bool) → pick t (Ok (length (unlikely op))) (Err InsufficientSpace) ≡ Ok n
         → wrote n false ≡ pick t (wrote (length (unlikely op)) false) (wrote 0 false)
     by true q = let m : length (unlikely op) ≡ n = cc in rw m
     by false q = impossible (cc)
 
-  pub unlikely_refused : (w : Error) → written (unlikely op) out ≡ Refused w → wrote 0 false ≡ unlikely_wrote op (length out)
+  pub unlikely_refused : (w : Error) → written (unlikely op) out ≡ Err w → wrote 0 false ≡ unlikely_wrote op (length out)
   unlikely_refused w e = by (leb (length (unlikely op)) (length out)) e where
-    by : (t : Bool) → pick t (Done (length (unlikely op))) (Refused InsufficientSpace) ≡ Refused w
+    by : (t : Bool) → pick t (Ok (length (unlikely op))) (Err InsufficientSpace) ≡ Err w
         → wrote 0 false ≡ pick t (wrote (length (unlikely op)) false) (wrote 0 false)
     by true q = impossible (cc)
     by false q = refl
+
+-- what goes out where there may be no room for it
+pub unlikely_told : (op : ℕ) (out : List ℕ) (r : Result ℕ Error) → r ≡ written (unlikely op) out → wrote (result_unwrap_or r 0) false ≡ unlikely_wrote op (length out)
+unlikely_told op out r e = ap (λ (x : Result ℕ Error). wrote (result_unwrap_or x 0) false) e ∙ by (leb (length (unlikely op)) (length out))
+  where
+    by : (t : Bool) → wrote (result_unwrap_or (pick t (Ok (length (unlikely op))) (Err InsufficientSpace)) 0) false ≡ pick t (wrote (length (unlikely op)) false) (wrote 0 false)
+    by true = refl
+    by false = refl
 
 pub unlikely_sent : (op : ℕ) → encoded_of (rsp.Error op 0 (code 0x0E)) [] ≡ Sent (unlikely op)
 unfolding encoded_of encoded_shown means_shown send shape_of rows unlikely
@@ -73,13 +80,13 @@ module _ (op : ℕ) (out : List ℕ) (h : length out < 2 ^ 64) where
   unfolding encoded_of encoded_shown packet_of
   encoded_tells r src = by (part_ok (show_rsp r).part src) where
     by : (t : Bool)
-        → (wrote_by (pick t (countable (send (means_shown (show_rsp r) no_uuid src))) NotSent) op (length out) ≡ wrote_by (pick t (send (means_shown (show_rsp r) no_uuid src)) NotSent) op (length out))
-        × (out_by (pick t (countable (send (means_shown (show_rsp r) no_uuid src))) NotSent) op out ≡ out_by (pick t (send (means_shown (show_rsp r) no_uuid src)) NotSent) op out)
-    by true = countable_tells (send (means_shown (show_rsp r) no_uuid src))
+        → (wrote_by (pick t (countable (send (means_shown (show_rsp r) src))) NotSent) op (length out) ≡ wrote_by (pick t (send (means_shown (show_rsp r) src)) NotSent) op (length out))
+        × (out_by (pick t (countable (send (means_shown (show_rsp r) src))) NotSent) op out ≡ out_by (pick t (send (means_shown (show_rsp r) src)) NotSent) op out)
+    by true = countable_tells (send (means_shown (show_rsp r) src))
     by false = (refl, refl)
 
 -- For those who tell: an answer whose part lies within its bytes is the packet that it shows.
-pub packet_is : (r : AttRsp) (src : List ℕ) → part_ok (show_rsp r).part src ≡ true → packet_of r src ≡ send (means_shown (show_rsp r) no_uuid src)
+pub packet_is : (r : AttRsp) (src : List ℕ) → part_ok (show_rsp r).part src ≡ true → packet_of r src ≡ send (means_shown (show_rsp r) src)
 unfolding packet_of
 packet_is r src e = rw e
 

@@ -12,9 +12,10 @@ ghost use Rattle.serve_tell.specs.Tell.{packet_of, encoded_of, unlikely_wrote, w
 
 use att::{Att, AttRsp, AttServer};
 use att_error::AttErrorCode;
-use codec::Written;
+use codec::Error;
 
 // How many bytes went out, and whether they are the packet that was meant.
+// Kept: the length is read of both alike, and the mark in one place.
 #[derive(Clone, Copy)]
 pub struct Wrote {
     pub len: usize,
@@ -27,11 +28,8 @@ pub fn tell(rsp: AttRsp, src: &[u8], op: u8, out: &mut [u8]) -> Wrote
     ensures out_after { out.new ≡ out_by (packet_of rsp src.now) op out.old }
 {
     match encode(rsp, src, out) {
-        Written::Done(n) => Wrote {
-            len: n,
-            meant: true,
-        },
-        Written::Refused(_) => tell_unlikely(op, out),
+        Ok(len) => Wrote { len, meant: true },
+        Err(_) => tell_unlikely(op, out),
     }
 }
 
@@ -46,7 +44,7 @@ pub fn error(op: u8, handle: u16, code: AttErrorCode, out: &mut [u8]) -> Wrote
         handle,
         code,
     };
-    tell(answer, b"", op, out)
+    tell(answer, &[], op, out)
 }
 
 fn tell_unlikely(op: u8, out: &mut [u8]) -> Wrote
@@ -58,27 +56,16 @@ fn tell_unlikely(op: u8, out: &mut [u8]) -> Wrote
         handle: 0,
         code: AttErrorCode::UNLIKELY_ERROR,
     };
-    match encode(error, b"", out) {
-        Written::Done(n) => Wrote {
-            len: n,
-            meant: false,
-        },
-        Written::Refused(_) => Wrote {
-            len: 0,
-            meant: false,
-        },
+    Wrote {
+        len: encode(error, &[], out).unwrap_or(0),
+        meant: false,
     }
 }
 
 #[tactic(auto, unfolding(crate::specs::Tell::encoded_of))]
-fn encode(rsp: AttRsp, src: &[u8], out: &mut [u8]) -> Written
+fn encode(rsp: AttRsp, src: &[u8], out: &mut [u8]) -> Result<usize, Error>
     ensures value { result ≡ written_of (encoded_of rsp src.now) out.old }
     ensures out_after { out.new ≡ laid_of (encoded_of rsp src.now) out.old }
 {
-    att_encode::encode(
-        Att::Server(AttServer::Response(rsp)),
-        ble_uuid::no_uuid(),
-        src,
-        out,
-    )
+    att_encode::encode(Att::Server(AttServer::Response(rsp)), src, out)
 }

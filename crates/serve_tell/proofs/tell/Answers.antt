@@ -6,19 +6,19 @@ use Rattle.serve_tell.specs.Tell.{encoded_of, unlikely_wrote}
 use Rattle.serve_tell.specs.TellLaws.{done_tells, refused_tells, encoded_tells}
 use Rattle.serve_tell.proofs.tell.Goals as goal
 
-pub returns-in-Done : goal.returns-in-Done
-returns-in-Done c =
+pub returns-in-Ok : goal.returns-in-Ok
+returns-in-Ok c =
     let a = c.args in
     let short : length a.out.now < 2 ^ 64 = search rules in
-    let d = done_tells a.op a.out.now (encoded_of a.rsp a.src.now) _ (sym c.encode.ensures.value ∙ c.in-Done.is) in
+    let d = done_tells a.op a.out.now (encoded_of a.rsp a.src.now) _ (sym c.encode.ensures.value ∙ c.in-Ok.is) in
     let g = encoded_tells a.op a.out.now short a.rsp a.src.now in
     record { value = d.0 ∙ g.0; out_after = c.encode.ensures.out_after ∙ d.1 ∙ g.1 }
 
-pub returns-in-Refused : goal.returns-in-Refused
-returns-in-Refused c =
+pub returns-in-Err : goal.returns-in-Err
+returns-in-Err c =
     let a = c.args in
     let short : length a.out.now < 2 ^ 64 = search rules in
-    let d = refused_tells a.op a.out.now (encoded_of a.rsp a.src.now) _ (sym c.encode.ensures.value ∙ c.in-Refused.is) in
+    let d = refused_tells a.op a.out.now (encoded_of a.rsp a.src.now) _ (sym c.encode.ensures.value ∙ c.in-Err.is) in
     let g = encoded_tells a.op a.out.now short a.rsp a.src.now in
     let o = c.encode.ensures.out_after ∙ d.0 in
     record {
