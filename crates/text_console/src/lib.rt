@@ -5,19 +5,21 @@
 #![tactic(auto)]
 
 ghost use Rattle.std.specs.Prelude.{◌≡◌, false, [], ◌∷◌, length, replicate, IfOk};
-ghost use Rattle.codec.specs.Buffer.{laid_at};
-ghost use Rattle.text_put.specs.Put.{behind, complaint_texts};
+ghost use Rattle.text_print.specs.Lines.{behind, Puts};
+ghost use Rattle.text_put.specs.Put.{complaint_texts};
 
 use std::io::{self, Read, Stdin, Stdout, Write};
 use text_lines::{Lines, Seen};
+use text_print::Line;
 
-// Writes the line that ends at a position to standard output. Whether that went well or not, the line
-// then ends with LF where it has room.
-pub fn write_line(mut to: Stdout, out: &mut [u8], pos: usize) -> io::Result<()>
-    ensures { out.new ≡ laid_at pos (10 ∷ []) out.old }
+// Writes a line to standard output. Whether that went well or not, it then ends with LF where it has room.
+pub fn write_line(mut to: Stdout, line: &mut Line<'_>) -> io::Result<()>
+    ensures { Puts ((10 ∷ []) ∷ []) line.old line.new }
 {
-    let n = text_print::text(out, pos, b"\n");
-    to.write_all(text_put::first(out, n))
+    line.text(b"\n");
+    let end = line.pos;
+    let out = &mut *line.out;
+    to.write_all(text_put::first(out, end))
 }
 
 // Writes that line to standard output, and answers the position behind its text.
@@ -25,8 +27,10 @@ pub fn complain(to: Stdout, number: u64, what: &[u8]) -> io::Result<usize>
     ensures { IfOk result (λ r. r ≡ behind (complaint_texts number what.now) 0 (replicate 64 0)) }
 {
     let mut out = [0u8; 64];
-    let at = text_put::complaint(&mut out, 0, number, what);
-    write_line(to, &mut out, at)?;
+    let mut line = Line::new(&mut out);
+    text_put::complaint(&mut line, number, what);
+    let at = line.pos;
+    write_line(to, &mut line)?;
     Ok(at)
 }
 

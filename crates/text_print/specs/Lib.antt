@@ -1,3 +1,4 @@
+pub mod Lines
 pub mod Print
 pub mod PrintLaws
 pub mod RoundTrip

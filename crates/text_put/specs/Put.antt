@@ -1,26 +1,16 @@
--- What a line holds after several texts, one behind the other, and the texts that programs put there.
+-- The texts that programs put on a line.
 use Rattle.std.specs.Prelude.{ℕ, ◌/◌, ◌%◌, List, [], ◌∷◌, length, take, leb}
 use Rattle.codec.specs.Ascii.{ascii}
-use Rattle.codec.specs.Buffer.{laid_at}
 use Rattle.codec.specs.Cases.{pick}
 use Rattle.codec.specs.Refusals.{refusal_number, name_of}
 use Rattle.codec.specs.declared.Refusal.{Refusal}
 use Rattle.ble_uuid.specs.declared.Uuid.{Uuid}
-use Rattle.text_print.specs.Print.{placed, capitals, hex_text, type_text}
+use Rattle.text_print.specs.Print.{capitals, hex_text, type_text}
 use Rattle.text_decimal.specs.Decimal.{decimal_text}
 
 -- the first `n` bytes, or none where there are fewer
 abbrev pub first_of : ℕ → List ℕ → List ℕ
 first_of n bytes = pick (leb n (length bytes)) (take n bytes) []
-
--- the position behind the texts, and the line with them
-unfoldable pub behind : List (List ℕ) → ℕ → List ℕ → ℕ
-behind [] pos out = pos
-behind (t ∷ ts) pos out = behind ts (placed pos t out) (laid_at pos t out)
-
-unfoldable pub holding : List (List ℕ) → ℕ → List ℕ → List ℕ
-holding [] pos out = out
-holding (t ∷ ts) pos out = holding ts (placed pos t out) (laid_at pos t out)
 
 -- a text, and behind it a number of one byte, of two bytes, or in decimal; bytes in HEX; a TYPE
 abbrev pub byted : List ℕ → ℕ → List (List ℕ)

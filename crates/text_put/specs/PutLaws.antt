@@ -6,7 +6,8 @@ use Rattle.codec.specs.Buffer.{over, laid, written, laid_at}
 use Rattle.codec.specs.Cases.{pick}
 use Rattle.codec.specs.declared.Error.{Error}
 use Rattle.codec.specs.declared.Error.TheVariants.{InsufficientSpace}
-use Rattle.text_put.specs.Put.{first_of, behind, holding}
+use Rattle.text_print.specs.Lines.{behind, holding}
+use Rattle.text_put.specs.Put.{first_of}
 use Rattle.text_print.specs.Print.{placed, hex_text}
 
 -- the line `w`, of which texts end at `r`, is the line `out` with these texts from `pos` on

@@ -1,14 +1,13 @@
 // Texts with numbers, bytes, types and refusals on a line that is built.
-//
-// A line is built at positions of a lent buffer: each function answers the position behind what it
-// wrote.
 #![tactic(auto)]
 
 ghost use Rattle.std.specs.Prelude.{◌≡◌};
-ghost use Rattle.text_put.specs.Put.{first_of, behind, holding, byted, numbered, counting, hexed, typed, refusal, complaint_texts};
+ghost use Rattle.text_print.specs.Lines.{Puts};
+ghost use Rattle.text_put.specs.Put.{first_of, byted, numbered, counting, hexed, typed, refusal, complaint_texts};
 
 use ble_uuid::Uuid;
 use codec::Refusal;
+use text_print::Line;
 
 // The first bytes of a buffer, so many; none where it has fewer.
 pub fn first(bytes: &[u8], n: usize) -> &[u8]
@@ -18,73 +17,66 @@ pub fn first(bytes: &[u8], n: usize) -> &[u8]
 }
 
 // A text and a number of one byte.
-#[tactic(auto, unfolding(crate::specs::Put::behind, crate::specs::Put::holding))]
-pub fn byte(out: &mut [u8], pos: usize, name: &[u8], v: u8) -> usize
-    ensures value { result ≡ behind (byted name.now v) pos out.old }
-    ensures out_after { out.new ≡ holding (byted name.now v) pos out.old }
+#[tactic(auto, unfolding(text_print::specs::Lines::behind, text_print::specs::Lines::holding))]
+pub fn byte(line: &mut Line<'_>, name: &[u8], v: u8)
+    ensures { Puts (byted name.now v) line.old line.new }
 {
-    let at = text_print::text(out, pos, name);
-    text_print::hex2(out, at, v)
+    line.text(name);
+    line.hex2(v);
 }
 
 // A text and a number of two bytes.
-#[tactic(auto, unfolding(crate::specs::Put::behind, crate::specs::Put::holding))]
-pub fn word(out: &mut [u8], pos: usize, name: &[u8], v: u16) -> usize
-    ensures value { result ≡ behind (numbered name.now v) pos out.old }
-    ensures out_after { out.new ≡ holding (numbered name.now v) pos out.old }
+#[tactic(auto, unfolding(text_print::specs::Lines::behind, text_print::specs::Lines::holding))]
+pub fn word(line: &mut Line<'_>, name: &[u8], v: u16)
+    ensures { Puts (numbered name.now v) line.old line.new }
 {
-    let at = text_print::text(out, pos, name);
-    text_print::hex4(out, at, v)
+    line.text(name);
+    line.hex4(v);
 }
 
 // A text and a decimal number.
-#[tactic(auto, unfolding(crate::specs::Put::behind, crate::specs::Put::holding))]
-pub fn count(out: &mut [u8], pos: usize, name: &[u8], v: u64) -> usize
-    ensures value { result ≡ behind (counting name.now v) pos out.old }
-    ensures out_after { out.new ≡ holding (counting name.now v) pos out.old }
+#[tactic(auto, unfolding(text_print::specs::Lines::behind, text_print::specs::Lines::holding))]
+pub fn count(line: &mut Line<'_>, name: &[u8], v: u64)
+    ensures { Puts (counting name.now v) line.old line.new }
 {
-    let at = text_print::text(out, pos, name);
-    text_print::decimal(out, at, v)
+    line.text(name);
+    line.decimal(v);
 }
 
 // A text and bytes in HEX.
-#[tactic(auto, unfolding(crate::specs::Put::behind, crate::specs::Put::holding))]
-pub fn hex(out: &mut [u8], pos: usize, name: &[u8], bytes: &[u8]) -> usize
-    ensures value { result ≡ behind (hexed name.now bytes.now) pos out.old }
-    ensures out_after { out.new ≡ holding (hexed name.now bytes.now) pos out.old }
+#[tactic(auto, unfolding(text_print::specs::Lines::behind, text_print::specs::Lines::holding))]
+pub fn hex(line: &mut Line<'_>, name: &[u8], bytes: &[u8])
+    ensures { Puts (hexed name.now bytes.now) line.old line.new }
 {
-    let at = text_print::text(out, pos, name);
-    text_print::hex(out, at, bytes)
+    line.text(name);
+    line.hex(bytes);
 }
 
 // A text and a TYPE.
-#[tactic(auto, unfolding(crate::specs::Put::behind, crate::specs::Put::holding))]
-pub fn kind(out: &mut [u8], pos: usize, name: &[u8], u: Uuid) -> usize
-    ensures value { result ≡ behind (typed name.now u) pos out.old }
-    ensures out_after { out.new ≡ holding (typed name.now u) pos out.old }
+#[tactic(auto, unfolding(text_print::specs::Lines::behind, text_print::specs::Lines::holding))]
+pub fn kind(line: &mut Line<'_>, name: &[u8], u: Uuid)
+    ensures { Puts (typed name.now u) line.old line.new }
 {
-    let at = text_print::text(out, pos, name);
-    text_print::type_text(out, at, u)
+    line.text(name);
+    line.type_text(u);
 }
 
 // A refusal's number and name.
-#[tactic(auto, unfolding(crate::specs::Put::behind, crate::specs::Put::holding))]
-pub fn refused(r: Refusal, out: &mut [u8], pos: usize) -> usize
-    ensures value { result ≡ behind (refusal r) pos out.old }
-    ensures out_after { out.new ≡ holding (refusal r) pos out.old }
+#[tactic(auto, unfolding(text_print::specs::Lines::behind, text_print::specs::Lines::holding))]
+pub fn refused(line: &mut Line<'_>, r: Refusal)
+    ensures { Puts (refusal r) line.old line.new }
 {
-    let at = count(out, pos, b"refused ", u64::from(u8::from(r)));
-    let at = text_print::text(out, at, b" ");
-    text_print::text(out, at, r.name())
+    count(line, b"refused ", u64::from(u8::from(r)));
+    line.text(b" ");
+    line.text(r.name());
 }
 
 // What is said of a line that cannot be read: `error line K: WHAT`.
-#[tactic(auto, unfolding(crate::specs::Put::behind, crate::specs::Put::holding))]
-pub fn complaint(out: &mut [u8], pos: usize, number: u64, what: &[u8]) -> usize
-    ensures value { result ≡ behind (complaint_texts number what.now) pos out.old }
-    ensures out_after { out.new ≡ holding (complaint_texts number what.now) pos out.old }
+#[tactic(auto, unfolding(text_print::specs::Lines::behind, text_print::specs::Lines::holding))]
+pub fn complaint(line: &mut Line<'_>, number: u64, what: &[u8])
+    ensures { Puts (complaint_texts number what.now) line.old line.new }
 {
-    let at = count(out, pos, b"error line ", number);
-    let at = text_print::text(out, at, b": ");
-    text_print::text(out, at, what)
+    count(line, b"error line ", number);
+    line.text(b": ");
+    line.text(what);
 }

@@ -4,4 +4,4 @@ use Rattle.text_print.proofs.usual.Goals as goal
 
 pub returns : goal.returns
 returns c =
-    usual_stores c.args.big _ _ _ _ _ c.digits.ensures.out_after c.digits-2.ensures.out_after c.digits-3.ensures.out_after c.digits-4.ensures.out_after c.digits-5.ensures.out_after
+    usual_stores c.args.big _ _ _ _ _ c.lay_digits.ensures.out_after c.lay_digits-2.ensures.out_after c.lay_digits-3.ensures.out_after c.lay_digits-4.ensures.out_after c.lay_digits-5.ensures.out_after
