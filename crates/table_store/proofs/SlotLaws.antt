@@ -1,5 +1,6 @@
 -- The till's own store, at each of its tests: what it answers, and the live bytes after it.
-use Rattle.std.specs.Prelude.{ℕ, ◌+◌, ◌-◌, ◌≤◌, ◌<◌, Bool, ◌≡◌, refl, List, ◌++◌, Result, Ok, Err, Some, None, length, take, drop, leb}
+use Rattle.std.specs.Prelude.{ℕ, ◌+◌, ◌-◌, ◌≤◌, ◌<◌, Bool, ◌≡◌, refl, List, ◌++◌, Result, Ok, Err, Option, Some, None, length, take, drop, leb}
+use Rattle.std.specs.Option.{option_map_or}
 use Rattle.std.proofs.Math.Bool.{true, false}
 use Rattle.std.proofs.Common.{sym, ap, ◌∙◌, arith, le-leb, leb-true, length-drop, take-append-drop}
 use Rattle.std.proofs.lemmas.Bool.{lt-leb, leb-false}
@@ -61,12 +62,6 @@ module _ (t : Table) (h : ℕ) (v fixed live : List ℕ) where
   unfolding stored stored_live
   store_bad s = rw (own_tests_lem t h (length v) fixed live false s) (refl, refl)
 
-  pub bad_answer : sound_table t (length fixed) (length live) ≡ false → Err BadTable ≡ stored t h v fixed live
-  bad_answer s = (store_bad s).0
-
-  pub bad_live : sound_table t (length fixed) (length live) ≡ false → live ≡ stored_live t h v fixed live
-  bad_live s = (store_bad s).1
-
   module _ (s : sound_table t (length fixed) (length live) ≡ true) where
     own_is : (o : Result Unit Refusal) → store_refusal h (length v) (ledger_of t fixed live) ≡ o
         → (changed_by o (relengthed t h (length v)) ≡ stored t h v fixed live) × (live_by o (written_live h v (entries t) live) live ≡ stored_live t h v fixed live)
@@ -77,12 +72,6 @@ module _ (t : Table) (h : ℕ) (v fixed live : List ℕ) where
     store_missing e = own_is (Err UnknownHandle)
         (item_first fixed live h (λ (i : Item). slot_refusal (length v) i.slot) (Err UnknownHandle) (entries t)
         ∙ missing_gives h (λ (r : Record). slot_refusal (length v) (slot_of r.place)) (Err UnknownHandle) (entries t) e)
-
-    pub missing_answer : find_in h (entries t) ≡ None → Err UnknownHandle ≡ stored t h v fixed live
-    missing_answer e = (store_missing e).0
-
-    pub missing_live : find_in h (entries t) ≡ None → live ≡ stored_live t h v fixed live
-    missing_live e = (store_missing e).1
 
     module _ (i : ℕ) (e : find_in h (entries t) ≡ Some i) (full : length t.records ≡ 64) where
       abbrev r : Record
@@ -127,11 +116,30 @@ module _ (t : Table) (h : ℕ) (v fixed live : List ℕ) where
                 ap (λ (o : Result Unit Refusal). live_by o (over_at (start r.place) v live) live) k ∙ sym lays ∙ x.1,
               )
 
-      pub found_answer : stored_as t i v ≡ stored t h v fixed live
-      found_answer = store_there.0
+  -- the whole of it, as the code asks for it
+  whole : length t.records ≡ 64
+      → (stored t h v fixed live
+      ≡ pick (sound_table t (length fixed) (length live)) (option_map_or (λ (i : ℕ). stored_as t i v) (find_in h (entries t)) (Err UnknownHandle)) (Err BadTable))
+      × (stored_live t h v fixed live
+      ≡ pick (sound_table t (length fixed) (length live)) (option_map_or (λ (i : ℕ). stored_as_live t i v live) (find_in h (entries t)) live) live)
+  whole full = by (sound_table t (length fixed) (length live)) refl (find_in h (entries t)) refl
+    where
+      by : (b : Bool) → sound_table t (length fixed) (length live) ≡ b → (o : Option ℕ) → find_in h (entries t) ≡ o
+          → (stored t h v fixed live ≡ pick b (option_map_or (λ (i : ℕ). stored_as t i v) o (Err UnknownHandle)) (Err BadTable))
+          × (stored_live t h v fixed live ≡ pick b (option_map_or (λ (i : ℕ). stored_as_live t i v live) o live) live)
+      by false s o e = (sym (store_bad s).0, sym (store_bad s).1)
+      by true s None e = (sym (store_missing s e).0, sym (store_missing s e).1)
+      by true s (Some i) e = (sym (store_there s i e full).0, sym (store_there s i e full).1)
 
-      pub found_live : stored_as_live t i v live ≡ stored_live t h v fixed live
-      found_live = store_there.1
+  pub stored_by : length t.records ≡ 64
+      → stored t h v fixed live
+      ≡ pick (sound_table t (length fixed) (length live)) (option_map_or (λ (i : ℕ). stored_as t i v) (find_in h (entries t)) (Err UnknownHandle)) (Err BadTable)
+  stored_by full = (whole full).0
+
+  pub stored_live_by : length t.records ≡ 64
+      → stored_live t h v fixed live
+      ≡ pick (sound_table t (length fixed) (length live)) (option_map_or (λ (i : ℕ). stored_as_live t i v live) (find_in h (entries t)) live) live
+  stored_live_by full = (whole full).1
 
 -- Bytes laid from a place on: a place past the end; and the part from there on, lent and come back with the bytes or without.
 pub lay_outside : (at : ℕ) (v l : List ℕ) → length l < at → l ≡ laid_at at v l

@@ -10,7 +10,7 @@ use attributes::{Place, Table};
 use codec::Refusal;
 
 // A value at a handle, whatever the marks. The first of the tests 11, 8, 9 and 10 that fails is the refusal.
-#[tactic(auto, using(crate::proofs::SlotLaws::bad_answer, crate::proofs::SlotLaws::bad_live, crate::proofs::SlotLaws::missing_answer, crate::proofs::SlotLaws::missing_live, crate::proofs::SlotLaws::slot_within, crate::proofs::SlotLaws::found_answer, crate::proofs::SlotLaws::found_live))]
+#[tactic(auto, using(crate::proofs::SlotLaws::stored_by, crate::proofs::SlotLaws::stored_live_by, crate::proofs::SlotLaws::slot_within))]
 pub fn store(
     t: Table,
     handle: u16,
