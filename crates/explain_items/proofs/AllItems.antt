@@ -6,7 +6,6 @@ use mathlib.Core.List.{List, flat_map}
 use Prim.Native.Nat.{ℕ}
 use native.Mathlib.Omega.{arith}
 use lib.ListN.{length}
-use Rattle.ble_uuid.specs.Uuids.{no_uuid}
 use Rattle.att.specs.Items.{items_of}
 use Rattle.att.specs.Typed.{encoded, meaning_of}
 use Rattle.att.specs.declared.Span.{Span}
@@ -21,8 +20,8 @@ use Rattle.explain_items.specs.Items.{kind_of, texts_from, items_texts}
 
 abbrev AllItems : ℕ → AttRsp → Type 0
 AllItems op r =
-    (src : List ℕ) → sent (encoded (Server (Response r)) no_uuid src) ≡ true
-    → items_texts op (Server (Response r)) src ≡ flat_map (kind_of op).texts (items_of (meaning_of (Server (Response r)) no_uuid src))
+    (src : List ℕ) → sent (encoded (Server (Response r)) src) ≡ true
+    → items_texts op (Server (Response r)) src ≡ flat_map (kind_of op).texts (items_of (meaning_of (Server (Response r)) src))
 
 pub all_informations : (f : FindInformationUuidFormat) (d : Span) → AllItems 0x05 (rsp.FindInformation f d)
 unfolding texts_from

@@ -1,6 +1,6 @@
 -- The texts of the items of a response, one behind the other: item=HANDLE:TYPE, item=HANDLE:END or item=HANDLE:HEX for each item, as
 -- the programs' page has them.
-use Rattle.std.specs.Prelude.{ℕ, true, false, length, take, drop, eqb}
+use Rattle.std.specs.Prelude.{ℕ, Option, Some, None, length, drop, eqb}
 use mathlib.Core.List.{List, ◌++◌, flat_map}
 use Rattle.codec.specs.Ascii.{ascii}
 use Rattle.codec.specs.Cases.{pick}
@@ -8,9 +8,7 @@ use Rattle.primitives.specs.Numbers.{number_at}
 use Rattle.ble_uuid.specs.Uuids.{uuid_of}
 use Rattle.att.specs.Typed.{show_att}
 use Rattle.att.specs.declared.Att.{Att}
-use Rattle.att_items.specs.Iterators.{item_shown, walk}
-use Rattle.att_items.specs.declared.Step.{Step}
-use Rattle.att_items.specs.declared.Step.TheVariants.{Item, End}
+use Rattle.att_items.specs.Iterators.{Step, found_bytes, item_shown, walk}
 use Rattle.text_put.specs.Put.{behind, holding, numbered, hexed, typed}
 use Rattle.explain_items.specs.declared.Shown.{Shown}
 
@@ -40,17 +38,17 @@ abbrev pub step_in : Kind → Att → List ℕ → ℕ → Step
 step_in k att src pos = item_shown k.first k.second (show_att att) src pos
 
 -- what is answered for it where it is written at `at`, and what the line then holds
-abbrev pub shown_as : (List ℕ → List (List ℕ)) → Step → List ℕ → ℕ → ℕ → List ℕ → Shown
-shown_as texts (Item a n next) src at pos out = record { at = behind (texts (take n (drop a src))) at out; next = next; more = true }
-shown_as texts End src at pos out = record { at = at; next = pos; more = false }
+abbrev pub shown_as : (List ℕ → List (List ℕ)) → Step → List ℕ → ℕ → List ℕ → Option Shown
+shown_as texts None src at out = None
+shown_as texts (Some f) src at out = Some (record { at = behind (texts (found_bytes f src)) at out; next = f.next })
 
 abbrev pub line_as : (List ℕ → List (List ℕ)) → Step → List ℕ → ℕ → List ℕ → List ℕ
-line_as texts (Item a n next) src at out = holding (texts (take n (drop a src))) at out
-line_as texts End src at out = out
+line_as texts None src at out = out
+line_as texts (Some f) src at out = holding (texts (found_bytes f src)) at out
 
 -- the same of the item at a position
-abbrev pub shown_at : Kind → Att → List ℕ → ℕ → ℕ → List ℕ → Shown
-shown_at k att src at pos out = shown_as k.texts (step_in k att src pos) src at pos out
+abbrev pub shown_at : Kind → Att → List ℕ → ℕ → ℕ → List ℕ → Option Shown
+shown_at k att src at pos out = shown_as k.texts (step_in k att src pos) src at out
 
 abbrev pub line_at : Kind → Att → List ℕ → ℕ → ℕ → List ℕ → List ℕ
 line_at k att src at pos out = line_as k.texts (step_in k att src pos) src at out

@@ -11,94 +11,49 @@ ghost use Rattle.explain_items.specs.Items.{informations, ranges, values, kind_o
 use att::Att;
 use att_items::{HandlePair, HandleUuid, HandleValue};
 
-// What an item was written as: the position behind it on the line, and the position of the next item;
-// or that there is none.
+// What an item was written as: the position behind it on the line, and the position of the next item.
 #[derive(Clone, Copy)]
 struct Shown {
     at: usize,
     next: usize,
-    more: bool,
 }
 
 // An item of Find By Type Value Response.
-fn range(att: Att, src: &[u8], out: &mut [u8], at: usize, pos: usize) -> Shown
+fn range(att: Att, src: &[u8], out: &mut [u8], at: usize, pos: usize) -> Option<Shown>
     ensures value { result ≡ shown_at ranges att src.now at pos out.old }
     ensures out_after { out.new ≡ line_at ranges att src.now at pos out.old }
 {
-    match att_items::find_by_type_value_next(att, src, pos) {
-        HandlePair::Item { handle, end, next } => {
-            let at = text_put::word(out, at, b" item=", handle);
-            let at = text_put::word(out, at, b":", end);
-            Shown {
-                at,
-                next,
-                more: true,
-            }
-        }
-        HandlePair::End => Shown {
-            at,
-            next: pos,
-            more: false,
-        },
-    }
+    let HandlePair { handle, end, next } = att_items::find_by_type_value_next(att, src, pos)?;
+    let at = text_put::word(out, at, b" item=", handle);
+    let at = text_put::word(out, at, b":", end);
+    Some(Shown { at, next })
 }
 
 // An item of Find Information Response.
-fn information(att: Att, src: &[u8], out: &mut [u8], at: usize, pos: usize) -> Shown
+fn information(att: Att, src: &[u8], out: &mut [u8], at: usize, pos: usize) -> Option<Shown>
     ensures value { result ≡ shown_at informations att src.now at pos out.old }
     ensures out_after { out.new ≡ line_at informations att src.now at pos out.old }
 {
-    let item = att_items::find_information_next(att, src, pos);
-    let answer = item.answer;
-    let uuid = item.uuid;
-    match answer {
-        HandleUuid::Item { handle, next } => {
-            let at = text_put::word(out, at, b" item=", handle);
-            let at = text_put::kind(out, at, b":", uuid);
-            Shown {
-                at,
-                next,
-                more: true,
-            }
-        }
-        HandleUuid::End => Shown {
-            at,
-            next: pos,
-            more: false,
-        },
-    }
+    let HandleUuid { handle, uuid, next } = att_items::find_information_next(att, src, pos)?;
+    let at = text_put::word(out, at, b" item=", handle);
+    let at = text_put::kind(out, at, b":", uuid);
+    Some(Shown { at, next })
 }
 
 // An item of Read By Type Response or Read By Group Type Response.
-fn value(att: Att, src: &[u8], out: &mut [u8], at: usize, pos: usize) -> Shown
+fn value(att: Att, src: &[u8], out: &mut [u8], at: usize, pos: usize) -> Option<Shown>
     ensures value { result ≡ shown_at values att src.now at pos out.old }
     ensures out_after { out.new ≡ line_at values att src.now at pos out.old }
 {
-    match att_items::read_by_type_next(att, src, pos) {
-        HandleValue::Item {
-            handle,
-            rest: _,
-            next,
-        } => {
-            let rest = att_items::read_by_type_rest(att, src, pos);
-            let at = text_put::word(out, at, b" item=", handle);
-            let at = text_put::hex(out, at, b":", rest);
-            Shown {
-                at,
-                next,
-                more: true,
-            }
-        }
-        HandleValue::End => Shown {
-            at,
-            next: pos,
-            more: false,
-        },
-    }
+    let HandleValue { handle, next, .. } = att_items::read_by_type_next(att, src, pos)?;
+    let rest = att_items::read_by_type_rest(att, src, pos);
+    let at = text_put::word(out, at, b" item=", handle);
+    let at = text_put::hex(out, at, b":", rest);
+    Some(Shown { at, next })
 }
 
 // An item of the response with this opcode.
-fn item(op: u8, att: Att, src: &[u8], out: &mut [u8], at: usize, pos: usize) -> Shown
+fn item(op: u8, att: Att, src: &[u8], out: &mut [u8], at: usize, pos: usize) -> Option<Shown>
     ensures value { result ≡ shown_at (kind_of op) att src.now at pos out.old }
     ensures out_after { out.new ≡ line_at (kind_of op) att src.now at pos out.old }
 {
@@ -116,15 +71,12 @@ pub fn items(op: u8, att: Att, src: &[u8], out: &mut [u8], start: usize) -> usiz
 {
     let mut at = start;
     let mut pos = 0;
-    let mut left = src.len();
-    while left > 0 {
-        let s = item(op, att, src, out, at, pos);
-        if !s.more {
+    for _ in 0..src.len() {
+        let Some(shown) = item(op, att, src, out, at, pos) else {
             return at;
-        }
-        at = s.at;
-        pos = s.next;
-        left -= 1;
+        };
+        at = shown.at;
+        pos = shown.next;
     }
     at
 }
