@@ -1,6 +1,6 @@
 -- The texts of the error codes (document 01, "Error texts"; the `Display` of att.rs, byte for byte, its slips kept: OP-043). A code of
 -- the table has its own text; 80 to 9F share the application text; all others get the unknown text, in decimal (OP-044).
-use Rattle.std.specs.Prelude.{ℕ, List, [], ◌∷◌, ◌++◌, map, leb}
+use Rattle.std.specs.Prelude.{ℕ, List, [], ◌∷◌, ◌++◌, map, leb, Option, Some, None}
 use Rattle.codec.specs.Ascii.{ascii}
 use Rattle.codec.specs.Cases.{pick, lookup}
 use Rattle.text_decimal.specs.Decimal.{decimal_text}
@@ -31,6 +31,13 @@ texts =
     ∷ (0xFE, ascii "procedure already in progress: the profile or service request could not be serviced because an operation that has been previousl triggered is still in progress")
     ∷ (0xFF, ascii "out of range: the attribute value is out of range as defined by a profile or service specification")
     ∷ []
+
+-- a code's own text, if it has one
+abbrev pub own_row : ℕ × List ℕ → ℕ × Option (List ℕ)
+own_row row = (row.0, Some row.1)
+
+abbrev pub own_text : ℕ → Option (List ℕ)
+own_text code = lookup code (map own_row texts) None
 
 unfoldable pub application : ℕ → List ℕ
 application code = ascii "application error code " ++ (decimal_text code ++ ascii ": check the application documentation of the device which produced this error code")
