@@ -2,7 +2,7 @@
 // stands at its place.
 #![tactic(auto)]
 
-ghost use Rattle.std.specs.Prelude.{min, ◌≡◌, ◌==◌, take, drop, find};
+ghost use Rattle.std.specs.Prelude.{◌≡◌, ◌==◌, take, drop, find};
 ghost use Rattle.attributes.specs.Ledger.{ledger_of, value_at};
 ghost use Rattle.attributes.specs.Records.{entries, value_of, find_in};
 
@@ -20,13 +20,6 @@ pub fn record_at(t: Table, handle: u16) -> Option<Record>
     ensures { result ≡ find (λ r. r.handle == handle) (entries t) }
 {
     t.entries().iter().copied().find(|r| r.handle == handle)
-}
-
-// How many records of a table are looked at: its array has no more than 64.
-pub fn counted(t: Table) -> usize
-    ensures { result ≡ min t.count 64 }
-{
-    t.count.min(64)
 }
 
 // The value at a handle, whatever the marks; none where there is no attribute.
