@@ -10,11 +10,9 @@ ghost use Rattle.serve_permit.specs.Permit.{store_to};
 ghost use Rattle.serve_tell.specs.Tell.{wrote_of, out_of};
 ghost use Rattle.serve_change.specs.Changes.{meant_by, meaning_of, said_of, done, agreement};
 
-use answers::Link;
+use answers::{Lent, Link};
 use att::{ATT_EXCHANGE_MTU_REQ, ATT_WRITE_REQ, AttRsp, Span};
 use att_error::AttErrorCode;
-use attributes::Table;
-use serve_record::Permission;
 use serve_tell::Wrote;
 
 // What a packet does beside its answer: nothing, a store of the packet's bytes in this range, or the end
@@ -49,7 +47,7 @@ pub fn exchange(link: Link, mtu: u16, out: &mut [u8]) -> Said
     }
     let told = serve_tell::tell(
         AttRsp::ExchangeMtu { mtu: 247 },
-        b"",
+        &[],
         ATT_EXCHANGE_MTU_REQ,
         out,
     );
@@ -59,45 +57,39 @@ pub fn exchange(link: Link, mtu: u16, out: &mut [u8]) -> Said
 fn agreed(mtu: u16) -> u16
     ensures { result ≡ max 23 (min 247 mtu) }
 {
-    if mtu < 23 {
-        return 23;
-    }
-    if 247 < mtu {
-        return 247;
-    }
-    mtu
+    mtu.clamp(23, 247)
 }
 
 // The answer to 12: the value in this range of the packet replaces the attribute's.
-pub fn write(t: Table, link: Link, handle: u16, data: Span, src: &[u8], out: &mut [u8]) -> Said
-    ensures result_value { meaning_of src.now result ≡ said_of (store_to t link handle (part_of «data» src.now)) 0x12 (length out.old) }
-    ensures out_after { out.new ≡ out_of (store_to t link handle (part_of «data» src.now)) 0x12 out.old }
+pub fn write(lent: Lent<'_>, handle: u16, data: Span, src: &[u8], out: &mut [u8]) -> Said
+    ensures result_value { meaning_of src.now result
+        ≡ said_of (store_to lent.entry.table.now lent.entry.link handle (part_of «data» src.now)) 0x12
+        (length out.old) }
+    ensures out_after { out.new
+        ≡ out_of (store_to lent.entry.table.now lent.entry.link handle (part_of «data» src.now)) 0x12 out.old }
 {
-    let at = data.at;
-    let len = data.len;
-    let value = table_records::part(src, at, len);
-    match serve_permit::may_store(t, link, handle, value.len()) {
-        Permission::Denied(code) => {
+    let value = table_records::part(src, data.at, data.len);
+    match serve_permit::may_store(*lent.table, lent.link, handle, value.len()) {
+        Err(code) => {
             let told = serve_tell::error(ATT_WRITE_REQ, handle, code, out);
             doing(told, Pending::Nothing)
         }
-        Permission::Allowed => {
-            let told = serve_tell::tell(AttRsp::Write, b"", ATT_WRITE_REQ, out);
+        Ok(()) => {
+            let told = serve_tell::tell(AttRsp::Write, &[], ATT_WRITE_REQ, out);
             doing(told, Pending::Stores { handle, data })
         }
     }
 }
 
 // What 52 does: the same store, and no answer.
-pub fn command(t: Table, link: Link, handle: u16, data: Span, src: &[u8]) -> Pending
-    ensures { meant_by src.now result ≡ (store_to t link handle (part_of «data» src.now)).effect }
+pub fn command(lent: Lent<'_>, handle: u16, data: Span, src: &[u8]) -> Pending
+    ensures { meant_by src.now result
+        ≡ (store_to lent.entry.table.now lent.entry.link handle (part_of «data» src.now)).effect }
 {
-    let at = data.at;
-    let len = data.len;
-    let value = table_records::part(src, at, len);
-    match serve_permit::may_store(t, link, handle, value.len()) {
-        Permission::Denied(_) => Pending::Nothing,
-        Permission::Allowed => Pending::Stores { handle, data },
+    let value = table_records::part(src, data.at, data.len);
+    match serve_permit::may_store(*lent.table, lent.link, handle, value.len()) {
+        Err(_) => Pending::Nothing,
+        Ok(()) => Pending::Stores { handle, data },
     }
 }
 
@@ -105,14 +97,8 @@ pub fn command(t: Table, link: Link, handle: u16, data: Span, src: &[u8]) -> Pen
 pub fn doing(told: Wrote, effect: Pending) -> Said
     ensures { result ≡ done told effect }
 {
-    if told.meant {
-        return Said {
-            len: told.len,
-            effect,
-        };
-    }
     Said {
         len: told.len,
-        effect: Pending::Nothing,
+        effect: if told.meant { effect } else { Pending::Nothing },
     }
 }

@@ -1,6 +1,6 @@
 -- Document 01, "How a packet is served": the reply to 04, 06, 08 or 10, told by what is asked. ListsLaws.antt says that for a
 -- legal MTU each is the reply of the book.
-use Rattle.std.specs.Prelude.{ℕ, Bool, true, List, eqb}
+use Rattle.std.specs.Prelude.{ℕ, Bool, true, List, eqb, Some, None, Ok, Err}
 use Rattle.codec.specs.Cases.{pick}
 use Rattle.att.specs.Typed.{span}
 use Rattle.att.specs.Wire.{Meaning, Coded, send}
@@ -8,23 +8,20 @@ use Rattle.att.specs.declared.AttRsp.{AttRsp}
 use Rattle.att.specs.declared.FindInformationUuidFormat.{FindInformationUuidFormat}
 use Rattle.att.specs.declared.FindInformationUuidFormat.TheVariants.{Uuid16, Uuid128}
 use Rattle.att.specs.declared.AttRsp.TheVariants as rsp
-use Rattle.attributes.specs.declared.Table.{Table}
-use Rattle.answers.specs.Contract.{views_for}
 use Rattle.answers.specs.Replies as book
 use Rattle.answers.specs.Replies.{Reply, error, error_packet, range_ok, listing, infos, pairs, values, group_values, groups, mtu_ok}
+use Rattle.answers.specs.Serve.{State, views}
 use Rattle.answers.specs.View.{View}
 use Rattle.answers.specs.declared.Link.{Link}
-use Rattle.serve_collect.specs.declared.Gathered.{Gathered}
-use Rattle.serve_collect.specs.declared.Gathered.TheVariants.{None, Failed, Listed}
-use Rattle.serve_search.specs.Search.{found_for}
+use Rattle.serve_collect.specs.Collect.{Gathered}
+use Rattle.serve_search.specs.Search.{Asked, found_for}
 use Rattle.serve_search.specs.declared.Ask.{Ask}
 use Rattle.serve_search.specs.declared.Ask.TheVariants.{Info, Pair, Typed, Grouped}
-use Rattle.serve_search.specs.declared.Query.{Query}
 use Rattle.serve_tell.specs.Tell.{packet_of, wrote_of, out_of}
 use Rattle.serve_tell.specs.declared.Wrote.{Wrote}
 
-abbrev pub asking : Ask → ℕ → ℕ → Query
-asking ask from to = record { ask = ask; from = from; to = to }
+abbrev pub asking : Ask → ℕ → ℕ → List ℕ → List ℕ → Asked
+asking ask from to kind value = record { ask = ask; from = from; to = to; kind = kind; value = value }
 
 abbrev pub op_for : Ask → ℕ
 op_for Info = 0x04
@@ -46,23 +43,23 @@ answer_for Typed n is = values n is
 answer_for Grouped n is = group_values n is
 
 -- for an MTU that is not legal nothing is found
-unfoldable pub found_in : Query → List ℕ → List ℕ → List View → Link → book.Found
-found_in q kind value vs l = pick (mtu_ok l.mtu) (found_for q kind value vs l) book.None
+unfoldable pub found_in : Asked → List View → Link → book.Found
+found_in q vs l = pick (mtu_ok l.mtu) (found_for q vs l) book.None
 
-unfoldable pub list_reply : Query → List ℕ → List ℕ → List View → Link → Reply
-list_reply q kind value vs l =
+unfoldable pub list_reply : Asked → List View → Link → Reply
+list_reply q vs l =
     pick (range_ok q.from q.to)
-    (pick (kind_ok q.ask kind)
-    (listing (op_for q.ask) q.from (answer_for q.ask) (found_in q kind value vs l))
+    (pick (kind_ok q.ask q.kind)
+    (listing (op_for q.ask) q.from (answer_for q.ask) (found_in q vs l))
     (error (op_for q.ask) q.from 0x10))
     (error (op_for q.ask) q.from 0x01)
 
 -- what goes out of it, and what the output then holds
-abbrev pub list_wrote : Query → List ℕ → List ℕ → Table → Link → List ℕ → List ℕ → ℕ → Wrote
-list_wrote q kind value t l fixed live room = wrote_of (list_reply q kind value (views_for t l fixed live) l) (op_for q.ask) room
+abbrev pub list_wrote : Asked → State → ℕ → Wrote
+list_wrote q s room = wrote_of (list_reply q (views s) s.link) (op_for q.ask) room
 
-abbrev pub list_out : Query → List ℕ → List ℕ → Table → Link → List ℕ → List ℕ → List ℕ → List ℕ
-list_out q kind value t l fixed live out = out_of (list_reply q kind value (views_for t l fixed live) l) (op_for q.ask) out
+abbrev pub list_out : Asked → State → List ℕ → List ℕ
+list_out q s out = out_of (list_reply q (views s) s.link) (op_for q.ask) out
 
 -- the typed answer of a list, its items in the first bytes that are handed over
 abbrev pub format_for : ℕ → FindInformationUuidFormat
@@ -76,5 +73,5 @@ response_for Grouped n used = rsp.ReadByGroupType n (span 0 used)
 
 abbrev pub found_coded : Ask → ℕ → Gathered → List ℕ → Coded
 found_coded ask from None items = send (error_packet (op_for ask) from 0x0A)
-found_coded ask from (Failed h c) items = send (error_packet (op_for ask) h c.value)
-found_coded ask from (Listed n used) items = packet_of (response_for ask n used) items
+found_coded ask from (Some (Err x)) items = send (error_packet (op_for ask) x.handle x.code.value)
+found_coded ask from (Some (Ok x)) items = packet_of (response_for ask x.item_len x.used) items

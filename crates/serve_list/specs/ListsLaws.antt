@@ -14,41 +14,37 @@ use Rattle.att.specs.Typed.{span, show_rsp, part_ok, means_shown}
 use Rattle.att.specs.Wire.{rows, shape_of, Meaning, meaning, send}
 use Rattle.att.specs.declared.AttRsp.{AttRsp}
 use Rattle.att.specs.declared.Span.{Span}
-use Rattle.ble_uuid.specs.Uuids.{no_uuid}
-use Rattle.attributes.specs.declared.Table.{Table}
-use Rattle.answers.specs.Contract.{state_of}
 use Rattle.answers.specs.Replies as book
 use Rattle.answers.specs.Replies.{Reply, error, error_packet, range_ok, search, searched, listing, infos, pairs, values, group_values, groups, mtu_ok, find_information, find_by_type_value, read_by_type, read_by_group_type}
-use Rattle.answers.specs.Serve.{views, ledger}
+use Rattle.answers.specs.Serve.{State, views, ledger}
 use Rattle.att.specs.Formats.{format_number}
 use Rattle.att.specs.declared.FindInformationUuidFormat.TheVariants.{Uuid16, Uuid128}
 use Rattle.answers.specs.View.{View}
 use Rattle.answers.specs.declared.Link.{Link}
 use Rattle.serve_collect.specs.Collect.{shown_found, shown_on}
-use Rattle.serve_search.specs.Search.{found_for, no_items, shown, listing_for}
+use Rattle.serve_search.specs.Search.{Asked, found_for, no_items, shown, listing_for}
 use Rattle.serve_search.specs.SearchLaws.{listed_items}
 use Rattle.serve_search.specs.declared.Ask.{Ask}
 use Rattle.serve_search.specs.declared.Ask.TheVariants.{Info, Pair, Typed, Grouped}
 use Rattle.serve_search.specs.declared.Listing.{Listing}
-use Rattle.serve_search.specs.declared.Query.{Query}
 use Rattle.serve_tell.specs.Tell.{packet_of, coded_of}
 use Rattle.serve_tell.specs.TellLaws.{packet_is}
 use Rattle.serve_list.specs.Lists.{asking, op_for, kind_ok, answer_for, found_in, list_reply, format_for, response_for, found_coded}
 
 module _ (from to : ℕ) (vs : List View) (l : Link) (e : mtu_ok l.mtu ≡ true) where
-  pub list_04 : (kind value : List ℕ) → list_reply (asking Info from to) kind value vs l ≡ find_information vs l from to
+  pub list_04 : (kind value : List ℕ) → list_reply (asking Info from to kind value) vs l ≡ find_information vs l from to
   unfolding list_reply found_in find_information searched
   list_04 kind value = rw e
 
-  pub list_06 : (kind : ℕ) (value : List ℕ) → list_reply (asking Pair from to) (bytes_of 2 kind) value vs l ≡ find_by_type_value vs l from to kind value
+  pub list_06 : (kind : ℕ) (value : List ℕ) → list_reply (asking Pair from to (bytes_of 2 kind) value) vs l ≡ find_by_type_value vs l from to kind value
   unfolding list_reply found_in find_by_type_value searched
   list_06 kind value = rw e
 
-  pub list_08 : (kind value : List ℕ) → list_reply (asking Typed from to) kind value vs l ≡ read_by_type vs l from to kind
+  pub list_08 : (kind value : List ℕ) → list_reply (asking Typed from to kind value) vs l ≡ read_by_type vs l from to kind
   unfolding list_reply found_in read_by_type searched
   list_08 kind value = rw e
 
-  pub list_10 : (kind value : List ℕ) → list_reply (asking Grouped from to) kind value vs l ≡ read_by_group_type vs l from to kind
+  pub list_10 : (kind value : List ℕ) → list_reply (asking Grouped from to kind value) vs l ≡ read_by_group_type vs l from to kind
   unfolding list_reply found_in read_by_group_type searched
   list_10 kind value = rw e (by (range_ok from to) (groups kind) _ _ _) where
     by : (a b : Bool) (x y z : Reply) → pick a (pick b x y) z ≡ pick (a && not b) y (pick a x z)
@@ -64,7 +60,7 @@ items_fit is rest =
 
 -- a typed answer that shows the items, in its one range from the start on
 sent_by : (r : AttRsp) (m : List ℕ → Meaning) (is : List (List ℕ)) (n : ℕ) → (show_rsp r).part ≡ span 0 (length (joined is))
-    → ((src : List ℕ) → means_shown (show_rsp r) no_uuid src ≡ m (take (length (joined is)) src))
+    → ((src : List ℕ) → means_shown (show_rsp r) src ≡ m (take (length (joined is)) src))
     → packet_of r (over (joined is) no_items) ≡ send (m (joined is))
 sent_by r m is n e f =
     let o = over (joined is) no_items in
@@ -93,23 +89,23 @@ found_coded_lem ask from (book.Failed h code) = refl
 found_coded_lem ask from (book.Listed n is) = listed_sent ask n is
 
 -- what code finds is what there is to find
-module _ (q : Query) (kind value : List ℕ) (t : Table) (l : Link) (fixed live : List ℕ) where
+module _ (q : Asked) (s : State) where
   abbrev seen : List View
-  seen = views (state_of t l fixed live)
+  seen = views s
 
-  listing_found : listing_for q kind value t l fixed live ≡ shown (found_in q kind value seen l)
+  listing_found : listing_for q s ≡ shown (found_in q seen s.link)
   unfolding listing_for found_in ledger
-  listing_found = by (mtu_ok l.mtu) (found_for q kind value seen l) where
+  listing_found = by (mtu_ok s.link.mtu) (found_for q seen s.link) where
     by : (b : Bool) (x : book.Found) → pick b (shown x) (shown book.None) ≡ shown (pick b x book.None)
     by true x = refl
     by false x = refl
 
   -- the ways to a reply
-  pub start_zero : q.from ≡ 0 → send (error_packet (op_for q.ask) q.from 0x01) ≡ coded_of (list_reply q kind value seen l)
+  pub start_zero : q.from ≡ 0 → send (error_packet (op_for q.ask) q.from 0x01) ≡ coded_of (list_reply q seen s.link)
   unfolding list_reply range_ok
   start_zero e = rw e
 
-  pub start_above : q.to < q.from → send (error_packet (op_for q.ask) q.from 0x01) ≡ coded_of (list_reply q kind value seen l)
+  pub start_above : q.to < q.from → send (error_packet (op_for q.ask) q.from 0x01) ≡ coded_of (list_reply q seen s.link)
   unfolding list_reply range_ok
   start_above h = let a : leb 1 q.from ≡ true = le-leb 1 q.from (omega arith) in rw (a, lt-leb q.from q.to h)
 
@@ -118,16 +114,17 @@ module _ (q : Query) (kind value : List ℕ) (t : Table) (l : Link) (fixed live 
     unfolding range_ok
     range = join (le-leb 1 q.from (omega arith)) (le-leb q.from q.to k)
 
-    pub kind_refused : kind_ok q.ask kind ≡ false → send (error_packet (op_for q.ask) q.from 0x10) ≡ coded_of (list_reply q kind value seen l)
+    pub kind_refused : kind_ok q.ask q.kind ≡ false → send (error_packet (op_for q.ask) q.from 0x10) ≡ coded_of (list_reply q seen s.link)
     unfolding list_reply
     kind_refused e = rw (range, e)
 
-    pub list_coded : (x : Listing) → kind_ok q.ask kind ≡ true → x ≡ listing_for q kind value t l fixed live
-        → found_coded q.ask q.from x.found x.items ≡ coded_of (list_reply q kind value seen l)
+    pub list_coded : (x : Listing) → kind_ok q.ask q.kind ≡ true → x ≡ listing_for q s
+        → found_coded q.ask q.from x.found x.items ≡ coded_of (list_reply q seen s.link)
     unfolding list_reply
     list_coded x e f =
-        ap (λ (y : Listing). found_coded q.ask q.from y.found y.items) (f ∙ listing_found) ∙ found_coded_lem q.ask q.from (found_in q kind value seen l) ∙ rw (range, e)
+        ap (λ (y : Listing). found_coded q.ask q.from y.found y.items) (f ∙ listing_found) ∙ found_coded_lem q.ask q.from (found_in q seen s.link) ∙ rw (range, e)
 
 -- the same type and value under the names that code has for them
-pub asked_as : (q : Query) (a b v w : List ℕ) (vs : List View) (l : Link) → a ≡ b → v ≡ w → coded_of (list_reply q a v vs l) ≡ coded_of (list_reply q b w vs l)
-asked_as q a b v w vs l e f = rw (e, f)
+pub asked_as : (ask : Ask) (from to : ℕ) (a b v w : List ℕ) (vs : List View) (l : Link) → a ≡ b → v ≡ w
+    → coded_of (list_reply (asking ask from to a v) vs l) ≡ coded_of (list_reply (asking ask from to b w) vs l)
+asked_as ask from to a b v w vs l e f = rw (e, f)

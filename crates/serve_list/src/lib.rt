@@ -6,134 +6,104 @@ ghost use Rattle.std.specs.Prelude.{◌≡◌, [], length};
 ghost use Rattle.primitives.specs.Numbers.{bytes_of};
 ghost use Rattle.ble_uuid.specs.Uuids.{on_air};
 ghost use Rattle.att.specs.Typed.{part_of};
+ghost use Rattle.answers.specs.Contract.{lent_state};
+ghost use Rattle.serve_search.specs.Search.{asked};
 ghost use Rattle.serve_search.specs.declared.Ask.TheVariants.{Info, Pair};
 ghost use Rattle.serve_tell.specs.Tell.{wrote_by, out_by};
 ghost use Rattle.serve_list.specs.Lists.{op_for, kind_ok, format_for, response_for, asking, list_wrote, list_out, found_coded};
 
-use answers::Link;
+use answers::Lent;
 use att::{
     ATT_FIND_BY_TYPE_VALUE_REQ, ATT_FIND_INFORMATION_REQ, ATT_READ_BY_GROUP_TYPE_REQ,
     ATT_READ_BY_TYPE_REQ, AttRsp, FindInformationUuidFormat, Span,
 };
 use att_error::AttErrorCode;
-use attributes::Table;
 use ble_uuid::Uuid;
-use serve_collect::Gathered;
+use serve_collect::{Failed, Listed};
 use serve_search::{Ask, Query};
 use serve_tell::Wrote;
 
 // The answer to 04.
-pub fn find_information<'a>(
-    from: u16,
-    to: u16,
-    t: Table,
-    link: Link,
-    fixed: &'a [u8],
-    live: &'a [u8],
-    out: &mut [u8],
-) -> Wrote
-    ensures value { result ≡ list_wrote (asking Info from to) [] [] t link fixed.now live.now (length out.old) }
-    ensures out_after { out.new ≡ list_out (asking Info from to) [] [] t link fixed.now live.now out.old }
+pub fn find_information(from: u16, to: u16, lent: Lent<'_>, out: &mut [u8]) -> Wrote
+    ensures value { result ≡ list_wrote (asking Info from to [] []) (lent_state lent.entry) (length out.old) }
+    ensures out_after { out.new ≡ list_out (asking Info from to [] []) (lent_state lent.entry) out.old }
 {
     let query = Query {
         ask: Ask::Info,
         from,
         to,
+        kind: &[],
+        value: &[],
     };
-    list(query, b"", b"", t, link, fixed, live, out)
+    list(query, lent, out)
 }
 
 // The answer to 06, for a 16-bit type and the value in this range of `src`.
-pub fn find_by_type_value<'a>(
+pub fn find_by_type_value(
     from: u16,
     to: u16,
     kind: u16,
     value: Span,
     src: &[u8],
-    t: Table,
-    link: Link,
-    fixed: &'a [u8],
-    live: &'a [u8],
+    lent: Lent<'_>,
     out: &mut [u8],
 ) -> Wrote
     ensures value { result
-        ≡ list_wrote (asking Pair from to) (bytes_of 2 kind) (part_of value src.now) t link fixed.now live.now
+        ≡ list_wrote (asking Pair from to (bytes_of 2 kind) (part_of value src.now)) (lent_state lent.entry)
         (length out.old) }
     ensures out_after { out.new
-        ≡ list_out (asking Pair from to) (bytes_of 2 kind) (part_of value src.now) t link fixed.now live.now
+        ≡ list_out (asking Pair from to (bytes_of 2 kind) (part_of value src.now)) (lent_state lent.entry)
         out.old }
 {
     let query = Query {
         ask: Ask::Pair,
         from,
         to,
+        kind: &kind.to_le_bytes(),
+        value: table_records::part(src, value.at, value.len),
     };
-    let low = (kind % 256) as u8;
-    let high = (kind / 256 % 256) as u8;
-    let own = [low, high];
-    let at = value.at;
-    let len = value.len;
-    let whole = table_records::part(src, at, len);
-    list(query, &own, whole, t, link, fixed, live, out)
+    list(query, lent, out)
 }
 
 // The answer to 08 or 10, for a type.
-pub fn read_by_type<'a>(
+pub fn read_by_type(
     ask: Ask,
     from: u16,
     to: u16,
     kind: Uuid,
-    t: Table,
-    link: Link,
-    fixed: &'a [u8],
-    live: &'a [u8],
-    out: &mut [u8],
-) -> Wrote
-    ensures value { result ≡ list_wrote (asking ask from to) (on_air kind) [] t link fixed.now live.now (length out.old) }
-    ensures out_after { out.new
-        ≡ list_out (asking ask from to) (on_air kind) [] t link fixed.now live.now out.old }
-{
-    let query = Query { ask, from, to };
-    let raw = kind.on_air();
-    let n = raw.len;
-    let all = raw.bytes;
-    let own = table_records::part(&all, 0, n);
-    list(query, own, b"", t, link, fixed, live, out)
-}
-
-// The answer to one of them: `kind` has the own bytes of the type asked for (06, 08, 10), `value` the
-// value (06).
-pub fn list<'a>(
-    query: Query,
-    kind: &[u8],
-    value: &[u8],
-    t: Table,
-    link: Link,
-    fixed: &'a [u8],
-    live: &'a [u8],
+    lent: Lent<'_>,
     out: &mut [u8],
 ) -> Wrote
     ensures value { result
-        ≡ list_wrote query kind.now value.now t link fixed.now live.now (length out.old) }
+        ≡ list_wrote (asking ask from to (on_air kind) []) (lent_state lent.entry) (length out.old) }
     ensures out_after { out.new
-        ≡ list_out query kind.now value.now t link fixed.now live.now out.old }
+        ≡ list_out (asking ask from to (on_air kind) []) (lent_state lent.entry) out.old }
 {
-    let ask = query.ask;
+    let query = Query {
+        ask,
+        from,
+        to,
+        kind: kind.on_air(),
+        value: &[],
+    };
+    list(query, lent, out)
+}
+
+// The answer to one of them.
+pub fn list(query: Query<'_>, lent: Lent<'_>, out: &mut [u8]) -> Wrote
+    ensures value { result ≡ list_wrote (asked query.entry) (lent_state lent.entry) (length out.old) }
+    ensures out_after { out.new ≡ list_out (asked query.entry) (lent_state lent.entry) out.old }
+{
     let from = query.from;
-    let op = opcode(ask);
-    if from == 0 {
+    let op = opcode(query.ask);
+    if from == 0 || query.to < from {
         return serve_tell::error(op, from, AttErrorCode::INVALID_HANDLE, out);
     }
-    if query.to < from {
-        return serve_tell::error(op, from, AttErrorCode::INVALID_HANDLE, out);
-    }
-    if !may_ask(ask, kind) {
+    if !may_ask(query.ask, query.kind) {
         return serve_tell::error(op, from, AttErrorCode::UNSUPPORTED_GROUP_TYPE, out);
     }
-    let listed = serve_search::search(query, kind, value, t, link, fixed, live);
-    let found = listed.found;
-    let items = listed.items;
-    tell_found(ask, from, found, &items, out)
+    let listed = serve_search::search(query, lent);
+    tell_found(query.ask, from, listed.found, &listed.items, out)
 }
 
 fn opcode(ask: Ask) -> u8
@@ -152,31 +122,37 @@ fn may_ask(ask: Ask, kind: &[u8]) -> bool
     ensures { result ≡ kind_ok ask kind.now }
 {
     match ask {
-        Ask::Info => true,
-        Ask::Pair => true,
-        Ask::Typed => true,
         Ask::Grouped => serve_groups::is_group(kind),
+        Ask::Info | Ask::Pair | Ask::Typed => true,
     }
 }
 
-fn tell_found(ask: Ask, from: u16, found: Gathered, items: &[u8], out: &mut [u8]) -> Wrote
+fn tell_found(
+    ask: Ask,
+    from: u16,
+    found: Option<Result<Listed, Failed>>,
+    items: &[u8],
+    out: &mut [u8],
+) -> Wrote
     ensures value { result ≡ wrote_by (found_coded ask from found items.now) (op_for ask) (length out.old) }
     ensures out_after { out.new ≡ out_by (found_coded ask from found items.now) (op_for ask) out.old }
 {
     let op = opcode(ask);
     match found {
-        Gathered::None => serve_tell::error(op, from, AttErrorCode::ATTRIBUTE_NOT_FOUND, out),
-        Gathered::Failed { handle, code } => serve_tell::error(op, handle, code, out),
-        Gathered::Listed { item_len, used } => {
-            serve_tell::tell(response(ask, item_len, used), items, op, out)
-        }
+        None => serve_tell::error(op, from, AttErrorCode::ATTRIBUTE_NOT_FOUND, out),
+        Some(Err(first)) => serve_tell::error(op, first.handle, first.code, out),
+        Some(Ok(list)) => serve_tell::tell(response(ask, list), items, op, out),
     }
 }
 
-fn response(ask: Ask, item_len: u8, used: usize) -> AttRsp
-    ensures { result ≡ response_for ask item_len used }
+fn response(ask: Ask, list: Listed) -> AttRsp
+    ensures { result ≡ response_for ask list.item_len list.used }
 {
-    let items = Span { at: 0, len: used };
+    let item_len = list.item_len;
+    let items = Span {
+        at: 0,
+        len: list.used,
+    };
     match ask {
         Ask::Info => AttRsp::FindInformation {
             format: format(item_len),
