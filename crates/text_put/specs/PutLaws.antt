@@ -1,12 +1,13 @@
 -- Laws of a program's line, in the shapes that the proofs of the code ask for.
 use Rattle.std.specs.Prelude.{ℕ, ◌≤◌, ◌≡◌, refl, Bool, true, false, not, List, [], ◌∷◌, ◌++◌, Ok, Err, length, drop, leb}
-use Rattle.std.proofs.Common.{sym, arith, length-append, take_at, le-leb}
+use Rattle.std.proofs.Common.{sym, ◌∙◌, arith, length-append, take_at, le-leb}
 use Rattle.codec.specs.CasesLaws.{impossible}
 use Rattle.codec.specs.Buffer.{over, laid, written, laid_at}
 use Rattle.codec.specs.Cases.{pick}
 use Rattle.codec.specs.declared.Error.{Error}
 use Rattle.codec.specs.declared.Error.TheVariants.{InsufficientSpace}
-use Rattle.text_print.specs.Lines.{behind, holding}
+use Rattle.text_print.specs.Lines.{behind, holding, Puts}
+use Rattle.text_print.specs.declared.Line.{Line}
 use Rattle.text_put.specs.Put.{first_of}
 use Rattle.text_print.specs.Print.{placed, hex_text}
 
@@ -36,6 +37,11 @@ holding_append (x ∷ xs) ys pos out = holding_append xs ys (placed pos x out) (
 pub joined : (xs ys : List (List ℕ)) (pos : ℕ) (out : List ℕ) (at : ℕ) (m : List ℕ) (r : ℕ) (w : List ℕ) → Wrote xs pos out at m → Wrote ys at m r w
     → Wrote (xs ++ ys) pos out r w
 joined xs ys pos out at m r w p q = rw (behind_append xs ys pos out, holding_append xs ys pos out, sym p.0, sym p.1) q
+
+-- texts put on a line, and then others
+pub puts_then : (xs ys : List (List ℕ)) (a b c : Line) → Puts xs a b → Puts ys b c → Puts (xs ++ ys) a c
+puts_then xs ys a b c p q =
+    let j = joined xs ys a.pos a.out.now b.pos b.out.now c.pos c.out.now (p.1, p.2) (q.1, q.2) in (q.0 ∙ p.0, j.0, j.1)
 
 -- the same texts, said otherwise
 pub as_texts : (xs ys : List (List ℕ)) (pos : ℕ) (out : List ℕ) (r : ℕ) (w : List ℕ) → xs ≡ ys → Wrote ys pos out r w → Wrote xs pos out r w
