@@ -3,80 +3,66 @@
 
 ghost use Rattle.std.specs.Prelude.{◌≡◌, length};
 ghost use Rattle.att.specs.Typed.{show_req};
+ghost use Rattle.answers.specs.Contract.{lent_state};
 ghost use Rattle.answers.specs.Replies.{error};
 ghost use Rattle.serve_tell.specs.Tell.{wrote_of, out_of};
 ghost use Rattle.serve_change.specs.Changes.{done, meaning_of, said_of};
 ghost use Rattle.serve_change.specs.declared.Pending.TheVariants.{Nothing};
 ghost use Rattle.serve_request.specs.Requests.{request_reply};
 
-use answers::Link;
+use answers::Lent;
 use att::{ATT_EXECUTE_WRITE_REQ, ATT_PREPARE_WRITE_REQ, ATT_READ_MULTIPLE_REQ, AttReq};
 use att_error::AttErrorCode;
-use attributes::Table;
-use ble_uuid::Uuid;
 use serve_change::{Pending, Said};
 use serve_search::Ask;
 use serve_tell::Wrote;
 
-// The answer to a request whose data stand in `src`. A type of 08 or 10 is `uuid`.
+// The answer to a request whose data stand in `src`.
 #[tactic(auto, using(crate::specs::RequestsLaws::list_quiet, crate::specs::RequestsLaws::read_quiet, crate::specs::RequestsLaws::blob_quiet, serve_change::specs::ChangesLaws::exchange_says))]
-pub fn answer<'a>(
-    req: AttReq,
-    uuid: Uuid,
-    src: &[u8],
-    t: Table,
-    link: Link,
-    fixed: &'a [u8],
-    live: &'a [u8],
-    out: &mut [u8],
-) -> Said
+pub fn answer(req: AttReq, src: &[u8], lent: Lent<'_>, out: &mut [u8]) -> Said
     ensures result_value { meaning_of src.now result
-        ≡ said_of (request_reply t link fixed.now live.now src.now uuid req) (show_req req).opcode
+        ≡ said_of (request_reply (lent_state lent.entry) src.now req) (show_req req).opcode
         (length out.old) }
     ensures out_after { out.new
-        ≡ out_of (request_reply t link fixed.now live.now src.now uuid req) (show_req req).opcode
-        out.old }
+        ≡ out_of (request_reply (lent_state lent.entry) src.now req) (show_req req).opcode out.old }
 {
     match req {
-        AttReq::ReadByGroupType { start, end } => {
-            let ask = Ask::Grouped;
-            quiet(serve_list::read_by_type(ask, start, end, uuid, t, link, fixed, live, out))
-        }
-        AttReq::ReadByType { start, end } => {
-            let ask = Ask::Typed;
-            quiet(serve_list::read_by_type(ask, start, end, uuid, t, link, fixed, live, out))
-        }
-        AttReq::Read { handle } => quiet(serve_read::read(t, link, handle, fixed, live, out)),
-        AttReq::Write { handle, data } => serve_change::write(t, link, handle, data, src, out),
-        AttReq::ExchangeMtu { mtu } => serve_change::exchange(link, mtu, out),
+        AttReq::ReadByGroupType {
+            start,
+            end,
+            group_type,
+        } => quiet(serve_list::read_by_type(Ask::Grouped, start, end, group_type, lent, out)),
+        AttReq::ReadByType {
+            start,
+            end,
+            attribute_type,
+        } => quiet(serve_list::read_by_type(Ask::Typed, start, end, attribute_type, lent, out)),
+        AttReq::Read { handle } => quiet(serve_read::read(lent, handle, out)),
+        AttReq::Write { handle, data } => serve_change::write(lent, handle, data, src, out),
+        AttReq::ExchangeMtu { mtu } => serve_change::exchange(lent.link, mtu, out),
         AttReq::FindByTypeValue {
             start_handle,
             end_handle,
             att_type,
             att_value,
-        } => {
-            let from = start_handle;
-            let to = end_handle;
-            quiet(serve_list::find_by_type_value(
-                from, to, att_type, att_value, src, t, link, fixed, live, out,
-            ))
-        }
+        } => quiet(serve_list::find_by_type_value(
+            start_handle,
+            end_handle,
+            att_type,
+            att_value,
+            src,
+            lent,
+            out,
+        )),
         AttReq::FindInformation {
             start_handle,
             end_handle,
-        } => {
-            let from = start_handle;
-            quiet(serve_list::find_information(from, end_handle, t, link, fixed, live, out))
-        }
-        AttReq::PrepareWrite {
-            handle: _,
-            offset: _,
-            value: _,
-        } => unserved(ATT_PREPARE_WRITE_REQ, out),
-        AttReq::ExecuteWrite { flags: _ } => unserved(ATT_EXECUTE_WRITE_REQ, out),
-        AttReq::ReadMultiple { handles: _ } => unserved(ATT_READ_MULTIPLE_REQ, out),
+        } => quiet(serve_list::find_information(start_handle, end_handle, lent, out)),
+        AttReq::PrepareWrite { .. } => unserved(ATT_PREPARE_WRITE_REQ, out),
+        AttReq::ExecuteWrite { .. } => unserved(ATT_EXECUTE_WRITE_REQ, out),
+        AttReq::ReadMultiple { .. } => unserved(ATT_READ_MULTIPLE_REQ, out),
         AttReq::ReadBlob { handle, offset } => {
-            quiet(serve_read::read_blob(t, link, handle, offset, fixed, live, out))
+            quiet(serve_read::read_blob(lent, handle, offset, out))
         }
     }
 }
