@@ -11,11 +11,12 @@ ghost use Rattle.primitives.specs.Numbers.{number_at};
 ghost use Rattle.cursor.specs.Reading.{rest};
 ghost use Rattle.text_hex.specs.Hex.{hex_means, answered, filled};
 ghost use Rattle.text_print.specs.Print.{capitals};
-ghost use Rattle.text_put.specs.Put.{behind, holding};
+ghost use Rattle.text_print.specs.Lines.{Puts};
 ghost use Rattle.replay_base.specs.Base.{said, little_of, refused_texts, double_text};
 
 use codec::{Error, Refusal};
 use primitives::Primitive;
+use text_print::Line;
 
 // The bytes of a HEX, at the start of a lent buffer; none where a word is no HEX or too long.
 #[tactic(auto, using(crate::specs::BaseLaws::fits, crate::specs::BaseLaws::held))]
@@ -52,48 +53,44 @@ pub fn tail(word: &[u8]) -> &[u8]
 }
 
 // `!1` or `!2`, behind a text.
-#[tactic(auto, unfolding(text_put::specs::Put::behind, text_put::specs::Put::holding))]
-pub fn refused(out: &mut [u8], pos: usize, name: &[u8], e: Error) -> usize
-    ensures value { result ≡ behind (refused_texts name.now e) pos out.old }
-    ensures out_after { out.new ≡ holding (refused_texts name.now e) pos out.old }
+#[tactic(auto, unfolding(text_print::specs::Lines::behind, text_print::specs::Lines::holding))]
+pub fn refused(line: &mut Line<'_>, name: &[u8], e: Error)
+    ensures { Puts (refused_texts name.now e) line.old line.new }
 {
-    let at = text_print::text(out, pos, name);
-    text_put::count(out, at, b"!", u64::from(u8::from(Refusal::from(e))))
+    line.text(name);
+    text_put::count(line, b"!", u64::from(u8::from(Refusal::from(e))));
 }
 
 // A number of a packet as hexadecimal digits, two for each of its bytes.
 pub trait Digits: Primitive {
     ghost digits: { Self → List (List ℕ) };
 
-    fn digits(self, out: &mut [u8], pos: usize) -> usize
-        ensures value { result ≡ behind (digits self) pos out.old }
-        ensures out_after { out.new ≡ holding (digits self) pos out.old };
+    fn digits(self, line: &mut Line<'_>)
+        ensures { Puts (digits self) line.old line.new };
 }
 
 impl Digits for u8 {
     ghost digits = { λ v. capitals (v ∷ []) ∷ [] };
 
-    #[tactic(auto, unfolding(text_put::specs::Put::behind, text_put::specs::Put::holding))]
-    fn digits(self, out: &mut [u8], pos: usize) -> usize {
-        text_print::hex2(out, pos, self)
+    fn digits(self, line: &mut Line<'_>) {
+        line.hex2(self);
     }
 }
 
 impl Digits for u16 {
     ghost digits = { λ v. capitals (v / 256 ∷ v % 256 ∷ []) ∷ [] };
 
-    #[tactic(auto, unfolding(text_put::specs::Put::behind, text_put::specs::Put::holding))]
-    fn digits(self, out: &mut [u8], pos: usize) -> usize {
-        text_print::hex4(out, pos, self)
+    fn digits(self, line: &mut Line<'_>) {
+        line.hex4(self);
     }
 }
 
 impl Digits for u32 {
     ghost digits = { double_text };
 
-    #[tactic(auto, unfolding(text_put::specs::Put::behind, text_put::specs::Put::holding))]
-    fn digits(self, out: &mut [u8], pos: usize) -> usize {
-        let at = text_print::hex4(out, pos, (self / 65536) as u16);
-        text_print::hex4(out, at, (self % 65536) as u16)
+    #[tactic(auto, unfolding(text_print::specs::Lines::behind, text_print::specs::Lines::holding))]
+    fn digits(self, line: &mut Line<'_>) {
+        line.hex4((self / 65536) as u16);
+        line.hex4((self % 65536) as u16);
     }
 }

@@ -5,10 +5,11 @@
 #![tactic(auto)]
 
 ghost use Rattle.std.specs.Prelude.{◌≡◌, length, ◌≤◌};
-ghost use Rattle.text_put.specs.Put.{behind, holding};
+ghost use Rattle.text_print.specs.Lines.{Puts};
 ghost use Rattle.replay_rooms.specs.Rooms.{all_of, untouched_of, wrote_of, rooms_texts};
 
 use codec::{Error, Refusal};
+use text_print::Line;
 
 // Whether all bytes are v.
 fn all(bytes: &[u8], v: u8) -> bool
@@ -108,32 +109,31 @@ fn writing<F: Fn(&mut [u8]) -> Result<usize, Error>>(
 }
 
 // A text and ROOMS.
-#[tactic(auto, unfolding(text_put::specs::Put::behind, text_put::specs::Put::holding))]
-fn rooms(out: &mut [u8], pos: usize, name: &[u8], untouched: usize, encoded: usize) -> usize
-    ensures value { result ≡ behind (rooms_texts name.now untouched encoded) pos out.old }
-    ensures out_after { out.new ≡ holding (rooms_texts name.now untouched encoded) pos out.old }
+#[tactic(auto, unfolding(text_print::specs::Lines::behind, text_print::specs::Lines::holding))]
+fn rooms(line: &mut Line<'_>, name: &[u8], untouched: usize, encoded: usize)
+    ensures { Puts (rooms_texts name.now untouched encoded) line.old line.new }
 {
-    let at = text_put::count(out, pos, name, untouched as u64);
-    text_put::count(out, at, b"/", encoded as u64)
+    text_put::count(line, name, untouched as u64);
+    text_put::count(line, b"/", encoded as u64);
 }
 
 // ROOMS of a call that is to write these bytes, behind a text.
+#[tactic(auto, using(crate::proofs::Kept::kept))]
 pub fn tried<F: Fn(&mut [u8]) -> Result<usize, Error>>(
     call: &F,
     full: &[u8],
-    out: &mut [u8],
-    pos: usize,
+    line: &mut Line<'_>,
     name: &[u8],
-) -> usize
+)
     requires { F.IsAlwaysCallable call.now }
     // The line keeps its length; its words are compared with the Rust, and not proved.
-    ensures { length out.new ≡ length out.old }
+    ensures { length line.new.out.now ≡ length line.old.out.now }
 {
     let n = full.len();
     if 1028 < n {
-        return text_print::text(out, pos, b" too long");
+        line.text(b" too long");
+        return;
     }
-    let r = refusing(call, 1, n + 4);
-    let a = writing(call, full, r, n + 4);
-    rooms(out, pos, name, r, a)
+    let refused = refusing(call, 1, n + 4);
+    rooms(line, name, refused, writing(call, full, refused, n + 4));
 }

@@ -5,71 +5,59 @@
 #![tactic(auto)]
 
 ghost use Rattle.std.specs.Prelude.{◌≡◌, length};
-ghost use Rattle.text_put.specs.Put.{behind, holding};
-ghost use Rattle.ble_uuid.specs.Uuids.{short_of};
-ghost use Rattle.replay_values.specs.Values.{byte_texts, word_texts, double_texts, decoded_line};
-ghost use Rattle.replay_values.specs.Values.{bits_of, raw_said, short_said, uuid_texts, uuid_line, same_line};
+ghost use Rattle.text_print.specs.Lines.{behind, holding, Puts};
+ghost use Rattle.text_lines.specs.Words.{word_of};
+ghost use Rattle.ble_uuid.specs.Uuids.{own, raw_of, short_of, sliced, uuid_of};
+ghost use Rattle.replay_base.specs.Base.{said};
+ghost use Rattle.replay_values.specs.Values.{number_texts, decoded_line, raw_said, short_said, uuid_texts, uuid_line, same_line};
 
-use ble_uuid::{Checked, Form, Raw, Uuid};
-use codec::Written;
-use primitives::{ReadU8, ReadU16, ReadU32};
-use replay_rooms::Asked;
+use ble_uuid::{Raw, Uuid};
+use codec::Error;
+use primitives::Primitive;
+use replay_base::Digits;
+use text_print::Line;
 
-fn text_reply(code: u8, full: &[u8], out: &mut [u8]) -> usize {
-    let at = text_print::decimal(out, 0, full.len() as u64);
-    let at = replay_rooms::tried(
-        Asked::Text(code),
-        ble_uuid::no_uuid(),
-        b"",
-        full,
-        out,
-        at,
-        b" ",
-    );
-    let at = text_print::text(out, at, b" ");
-    text_print::text(out, at, full)
+fn text_reply(code: u8, full: &[u8], reply: &mut Line<'_>) {
+    let call = |room: &mut [u8]| att_text::write_text(code, room);
+    reply.decimal(full.len() as u64);
+    replay_rooms::tried(&call, full, reply, b" ");
+    reply.text(b" ");
+    reply.text(full);
 }
 
+// T HEX
 pub fn text(line: &[u8], out: &mut [u8]) -> usize
     // The line keeps its length; its words are compared with the Rust, and not proved.
     ensures { length out.new ≡ length out.old }
 {
+    let mut reply = Line::new(out);
     let mut spelt = [0u8; 256];
-    let b = replay_base::little(text_lines::word(line, 2));
-    let code = b[0];
+    let [code, ..] = replay_base::little(text_lines::word(line, 2));
     match att_text::write_text(code, &mut spelt) {
-        Written::Done(n) => text_reply(code, text_put::first(&spelt, n), out),
-        Written::Refused(e) => replay_base::refused(out, 0, b"", e),
+        Ok(n) => text_reply(code, text_put::first(&spelt, n), &mut reply),
+        Err(e) => replay_base::refused(&mut reply, b"", e),
+    }
+    reply.pos
+}
+
+fn number_reply<T: Digits>(src: &[u8], reply: &mut Line<'_>)
+    ensures { Puts (number_texts T.SIZE T.of T.digits src.now) reply.old reply.new }
+{
+    match T::decode(src) {
+        Ok(v) => v.digits(reply),
+        Err(e) => replay_base::refused(reply, b"", e),
     }
 }
 
-fn byte_reply(src: &[u8], out: &mut [u8]) -> usize
-    ensures value { result ≡ behind (byte_texts src.now) 0 out.old }
-    ensures out_after { out.new ≡ holding (byte_texts src.now) 0 out.old }
+fn decoded_reply(line: &[u8], reply: &mut Line<'_>)
+    ensures { Puts (decoded_line line.now) reply.old reply.new }
 {
-    match primitives::read_u8(src) {
-        ReadU8::Value(v) => text_print::hex2(out, 0, v),
-        ReadU8::Refused(e) => replay_base::refused(out, 0, b"", e),
-    }
-}
-
-fn word_reply(src: &[u8], out: &mut [u8]) -> usize
-    ensures value { result ≡ behind (word_texts src.now) 0 out.old }
-    ensures out_after { out.new ≡ holding (word_texts src.now) 0 out.old }
-{
-    match primitives::read_u16(src) {
-        ReadU16::Value(v) => text_print::hex4(out, 0, v),
-        ReadU16::Refused(e) => replay_base::refused(out, 0, b"", e),
-    }
-}
-
-fn double_reply(src: &[u8], out: &mut [u8]) -> usize
-    ensures value { result ≡ behind (double_texts src.now) 0 out.old }
-    ensures out_after { out.new ≡ holding (double_texts src.now) 0 out.old }
-{
-    match primitives::read_u32(src) {
-        ReadU32::Value(v) => replay_base::double(out, 0, v),
-        ReadU32::Refused(e) => replay_base::refused(out, 0, b"", e),
+    let mut buf = [0u8; 64];
+    let n = replay_base::bytes(text_lines::word(line, 3), &mut buf);
+    match replay_base::letter(text_lines::word(line, 2)) {
+        b'b' => number_reply::<u8>(&buf[..n], reply),
+        b'w' => number_reply::<u16>(&buf[..n], reply),
+        _ => number_reply::<u32>(&buf[..n], reply),
     }
 }
 
@@ -78,35 +66,17 @@ pub fn decoded(line: &[u8], out: &mut [u8]) -> usize
     ensures value { result ≡ behind (decoded_line line.now) 0 out.old }
     ensures out_after { out.new ≡ holding (decoded_line line.now) 0 out.old }
 {
-    let mut buf = [0u8; 64];
-    let n = replay_base::bytes(text_lines::word(line, 3), &mut buf);
-    let src = text_put::first(&buf, n);
-    match replay_base::letter(text_lines::word(line, 2)) {
-        b'b' => byte_reply(src, out),
-        b'w' => word_reply(src, out),
-        _ => double_reply(src, out),
-    }
+    let mut reply = Line::new(out);
+    decoded_reply(line, &mut reply);
+    reply.pos
 }
 
-fn encode(letter: u8, b: [u8; 4], dest: &mut [u8]) -> Written {
+fn encode(letter: u8, b: &[u8], dest: &mut [u8]) -> Result<usize, Error> {
     match letter {
-        b'b' => primitives::write_u8(primitives::u8_at(&b, 0), dest),
-        b'w' => primitives::write_u16(primitives::u16_at(&b, 0), dest),
-        _ => primitives::write_u32(primitives::u32_at(&b, 0), dest),
+        b'b' => u8::at(b, 0).encode(dest),
+        b'w' => u16::at(b, 0).encode(dest),
+        _ => u32::at(b, 0).encode(dest),
     }
-}
-
-fn answer(w: Written, out: &mut [u8]) -> usize {
-    match w {
-        Written::Done(_) => text_print::text(out, 0, b"ok"),
-        Written::Refused(e) => replay_base::refused(out, 0, b"", e),
-    }
-}
-
-fn encoded_in(letter: u8, b: [u8; 4], dest: &mut [u8], out: &mut [u8]) -> usize {
-    let w = encode(letter, b, dest);
-    let at = answer(w, out);
-    text_put::hex(out, at, b" ", dest)
 }
 
 // E LETTER-NUMBER HEX
@@ -114,58 +84,76 @@ pub fn encoded(line: &[u8], out: &mut [u8]) -> usize
     // The line keeps its length; its words are compared with the Rust, and not proved.
     ensures { length out.new ≡ length out.old }
 {
+    let mut reply = Line::new(out);
     let mut buf = [0u8; 64];
     let n = replay_base::bytes(text_lines::word(line, 3), &mut buf);
+    let dest = &mut buf[..n];
     let word = text_lines::word(line, 2);
     let b = replay_base::little(replay_base::tail(word));
-    if 64 < n {
-        return 0;
+    match encode(replay_base::letter(word), &b, dest) {
+        Ok(_) => reply.text(b"ok"),
+        Err(e) => replay_base::refused(&mut reply, b"", e),
     }
-    encoded_in(replay_base::letter(word), b, &mut buf[0..n], out)
+    text_put::hex(&mut reply, b" ", dest);
+    reply.pos
 }
 
 // All sixteen bytes, and how many of them count.
-#[tactic(auto, unfolding(text_put::specs::Put::behind, text_put::specs::Put::holding))]
-fn raw(out: &mut [u8], pos: usize, r: Raw) -> usize
-    ensures value { result ≡ behind (raw_said r) pos out.old }
-    ensures out_after { out.new ≡ holding (raw_said r) pos out.old }
+#[tactic(auto, unfolding(text_print::specs::Lines::behind, text_print::specs::Lines::holding))]
+fn raw(reply: &mut Line<'_>, r: Raw)
+    ensures { Puts (raw_said r) reply.old reply.new }
 {
-    let all = r.bytes;
-    let at = text_put::hex(out, pos, b" ", &all);
-    text_put::count(out, at, b"/", r.len as u64)
+    text_put::hex(reply, b" ", &r.bytes);
+    text_put::count(reply, b"/", r.len as u64);
 }
 
-#[tactic(auto, using(crate::specs::ValuesLaws::short_as))]
-fn short(out: &mut [u8], pos: usize, u: Uuid) -> usize
-    ensures value { result ≡ behind (short_said (short_of u)) pos out.old }
-    ensures out_after { out.new ≡ holding (short_said (short_of u)) pos out.old }
+fn short(reply: &mut Line<'_>, u: Uuid)
+    ensures { Puts (short_said (short_of u)) reply.old reply.new }
 {
     match u.as_short() {
-        ReadU16::Value(v) => text_put::word(out, pos, b" ", v),
-        ReadU16::Refused(e) => replay_base::refused(out, pos, b" ", e),
+        Ok(v) => text_put::word(reply, b" ", v),
+        Err(e) => replay_base::refused(reply, b" ", e),
     }
 }
 
-fn bits(form: Form) -> u64
-    ensures { result ≡ bits_of form }
+// A UUID's own bytes, 00 behind them.
+fn own_raw(u: Uuid) -> Raw
+    ensures { result ≡ raw_of (own u) }
 {
-    match form {
-        Form::Uuid16 => 16,
-        Form::Uuid32 => 32,
-        Form::Uuid128 => 128,
+    let own = u.as_raw();
+    let mut bytes = [0u8; 16];
+    bytes[..own.len()].copy_from_slice(own);
+    Raw {
+        bytes,
+        len: own.len(),
     }
 }
 
-fn uuid_reply(u: Uuid, out: &mut [u8]) -> usize
-    ensures value { result ≡ behind (uuid_texts u) 0 out.old }
-    ensures out_after { out.new ≡ holding (uuid_texts u) 0 out.old }
+fn uuid_reply(u: Uuid, reply: &mut Line<'_>)
+    ensures { Puts (uuid_texts u) reply.old reply.new }
 {
-    let form = u.form;
-    let at = text_print::decimal(out, 0, bits(form));
-    let at = text_put::count(out, at, b" ", u.get_att_type() as u64);
-    let at = raw(out, at, u.att_bytes());
-    let at = raw(out, at, u.as_raw());
-    short(out, at, u)
+    reply.decimal(8 * u.width() as u64);
+    text_put::count(reply, b" ", u.get_att_type() as u64);
+    raw(reply, u.att_bytes());
+    raw(reply, own_raw(u));
+    short(reply, u);
+}
+
+fn uuid_at(line: &[u8], k: usize) -> Result<Uuid, Error>
+    ensures { result ≡ sliced (said 64 (word_of k line.now)) }
+{
+    let mut buf = [0u8; 64];
+    let n = replay_base::bytes(text_lines::word(line, k), &mut buf);
+    Uuid::try_from(&buf[..n])
+}
+
+fn uuid_or_not(line: &[u8], reply: &mut Line<'_>)
+    ensures { Puts (uuid_line line.now) reply.old reply.new }
+{
+    match uuid_at(line, 2) {
+        Ok(u) => uuid_reply(u, reply),
+        Err(e) => replay_base::refused(reply, b"", e),
+    }
 }
 
 // U HEX
@@ -173,15 +161,28 @@ pub fn uuid(line: &[u8], out: &mut [u8]) -> usize
     ensures value { result ≡ behind (uuid_line line.now) 0 out.old }
     ensures out_after { out.new ≡ holding (uuid_line line.now) 0 out.old }
 {
-    let mut buf = [0u8; 64];
-    let n = replay_base::bytes(text_lines::word(line, 2), &mut buf);
-    let s = ble_uuid::from_slice(text_put::first(&buf, n));
-    let a = s.answer;
-    let u = s.uuid;
-    match a {
-        Checked::Accepted => uuid_reply(u, out),
-        Checked::Refused(e) => replay_base::refused(out, 0, b"", e),
+    let mut reply = Line::new(out);
+    uuid_or_not(line, &mut reply);
+    reply.pos
+}
+
+// The UUID of a word; the 16-bit 0000 where the word is none.
+fn uuid_in(line: &[u8], k: usize) -> Uuid
+    ensures { result ≡ uuid_of (said 64 (word_of k line.now)) }
+{
+    uuid_at(line, k).unwrap_or(ble_uuid::no_uuid())
+}
+
+fn compared(line: &[u8], reply: &mut Line<'_>)
+    ensures { Puts (same_line line.now) reply.old reply.new }
+{
+    let a = uuid_in(line, 2);
+    let b = uuid_in(line, 3);
+    if a == b {
+        reply.text(b"equal");
+        return;
     }
+    reply.text(b"different");
 }
 
 // V HEX HEX
@@ -189,16 +190,7 @@ pub fn same(line: &[u8], out: &mut [u8]) -> usize
     ensures value { result ≡ behind (same_line line.now) 0 out.old }
     ensures out_after { out.new ≡ holding (same_line line.now) 0 out.old }
 {
-    let mut buf = [0u8; 64];
-    let n = replay_base::bytes(text_lines::word(line, 2), &mut buf);
-    let a = ble_uuid::from_slice(text_put::first(&buf, n));
-    let mut other = [0u8; 64];
-    let m = replay_base::bytes(text_lines::word(line, 3), &mut other);
-    let b = ble_uuid::from_slice(text_put::first(&other, m));
-    let x = a.uuid;
-    let y = b.uuid;
-    if x.eq(y) {
-        return text_print::text(out, 0, b"equal");
-    }
-    text_print::text(out, 0, b"different")
+    let mut reply = Line::new(out);
+    compared(line, &mut reply);
+    reply.pos
 }

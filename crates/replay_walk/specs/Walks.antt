@@ -1,9 +1,7 @@
 -- The words of a walk: where its steps end, what stands between and behind their answers, and where a jump leads.
 use Rattle.std.specs.Prelude.{ℕ, ◌+◌, ◌-◌, Bool, true, List, [], ◌∷◌, ◌++◌, eqb, ltb}
 use Rattle.codec.specs.Ascii.{ascii}
-use Rattle.codec.specs.Buffer.{laid_at}
 use Rattle.codec.specs.Cases.{pick}
-use Rattle.text_print.specs.Print.{placed}
 use Rattle.text_put.specs.Put.{counting}
 
 -- no word, or one that begins with `=`
@@ -12,11 +10,8 @@ end_of [] = true
 end_of (c ∷ cs) = eqb c 61
 
 -- a blank behind what stands there, none at the line's start
-abbrev pub joined_at : ℕ → List ℕ → ℕ
-joined_at at out = pick (eqb at 0) 0 (placed at (32 ∷ []) out)
-
-abbrev pub joined_line : ℕ → List ℕ → List ℕ
-joined_line at out = pick (eqb at 0) out (laid_at at (32 ∷ []) out)
+abbrev pub joint : ℕ → List (List ℕ)
+joint at = pick (eqb at 0) [] ((32 ∷ []) ∷ [])
 
 -- the position n bytes on, where it is not past the end
 abbrev pub jumped_to : ℕ → ℕ → ℕ → ℕ

@@ -6,33 +6,34 @@
 
 ghost use Rattle.std.specs.Prelude.{◌≡◌, length, unwrap_or};
 ghost use Rattle.text_hex.specs.Hex.{decimal_of};
-ghost use Rattle.text_put.specs.Put.{behind, holding};
-ghost use Rattle.replay_walk.specs.Walks.{end_of, joined_at, joined_line, place_texts, jumped_to};
+ghost use Rattle.text_print.specs.Lines.{Puts};
+ghost use Rattle.replay_walk.specs.Walks.{end_of, joint, place_texts, jumped_to};
 
 use codec::Error;
 use cursor_read::ReadCursor;
 use cursor_write::WriteCursor;
 use primitives::Primitive;
 use replay_base::Digits;
+use text_print::Line;
 
-// A cursor that is walked. A step is a letter with what it is given behind it: the cursor makes it, and its
-// answer goes to a position of the line; the position behind the answer comes back.
+// A cursor that is walked. It makes the step that a letter says, with what it is given behind it, and the
+// answer goes on the line.
 trait Walker {
-    fn step(&mut self, word: &[u8], out: &mut [u8], at: usize) -> usize;
+    fn step(&mut self, word: &[u8], line: &mut Line<'_>);
 
     // The cursor's position, and how many bytes it has left.
     fn place(&self) -> (usize, usize);
 }
 
-fn refused(e: Error, out: &mut [u8], at: usize) -> usize {
-    replay_base::refused(out, at, b"", e)
+fn refused(line: &mut Line<'_>, e: Error) {
+    replay_base::refused(line, b"", e);
 }
 
 // What a call that only moves the cursor answered.
-fn answered(moved: Result<(), Error>, out: &mut [u8], at: usize) -> usize {
+fn answered(line: &mut Line<'_>, moved: Result<(), Error>) {
     match moved {
-        Ok(()) => text_print::text(out, at, b"ok"),
-        Err(e) => refused(e, out, at),
+        Ok(()) => line.text(b"ok"),
+        Err(e) => refused(line, e),
     }
 }
 
@@ -52,38 +53,38 @@ fn jumped(pos: usize, data: &[u8], n: usize) -> usize
     pos.checked_add(n).unwrap_or(pos)
 }
 
-fn number<T: Digits>(cursor: &mut ReadCursor, out: &mut [u8], at: usize) -> usize {
+fn number<T: Digits>(cursor: &mut ReadCursor, line: &mut Line<'_>) {
     match cursor.read::<T>() {
-        Ok(v) => v.digits(out, at),
-        Err(e) => refused(e, out, at),
+        Ok(v) => v.digits(line),
+        Err(e) => refused(line, e),
     }
 }
 
 // A part of the bytes, where there is one.
-fn part(part: Result<&[u8], Error>, out: &mut [u8], at: usize) -> usize {
+fn part(line: &mut Line<'_>, part: Result<&[u8], Error>) {
     match part {
-        Ok(bytes) => text_print::hex(out, at, bytes),
-        Err(e) => refused(e, out, at),
+        Ok(bytes) => line.hex(bytes),
+        Err(e) => refused(line, e),
     }
 }
 
 impl<'d> Walker for ReadCursor<'d> {
-    fn step(&mut self, word: &[u8], out: &mut [u8], at: usize) -> usize {
+    fn step(&mut self, word: &[u8], line: &mut Line<'_>) {
         let n = decimal(replay_base::tail(word));
         match replay_base::letter(word) {
-            b'b' => number::<u8>(self, out, at),
-            b'w' => number::<u16>(self, out, at),
-            b'd' => number::<u32>(self, out, at),
-            b's' => part(self.slice(n), out, at),
-            b'c' => part(self.consume(n), out, at),
-            b'm' => text_print::hex(out, at, self.remaining()),
+            b'b' => number::<u8>(self, line),
+            b'w' => number::<u16>(self, line),
+            b'd' => number::<u32>(self, line),
+            b's' => part(line, self.slice(n)),
+            b'c' => part(line, self.consume(n)),
+            b'm' => line.hex(self.remaining()),
             b'z' => {
                 self.reset();
-                text_print::text(out, at, b"ok")
+                line.text(b"ok");
             }
             _ => {
                 self.pos = jumped(self.pos, self.data, n);
-                text_print::text(out, at, b"ok")
+                line.text(b"ok");
             }
         }
     }
@@ -119,54 +120,47 @@ fn fill(cursor: &mut WriteCursor, digits: &[u8]) -> usize {
 }
 
 // Both parts of a split, one after the other.
-fn split(cursor: &mut WriteCursor, n: usize, out: &mut [u8], at: usize) -> usize {
+fn split(cursor: &mut WriteCursor, n: usize, line: &mut Line<'_>) {
     if let Err(e) = cursor::given(cursor.pos, cursor.data.len(), n) {
-        return refused(e, out, at);
+        refused(line, e);
+        return;
     }
-    let at = text_print::hex(
-        out,
-        at,
-        cursor_write::split_first(cursor.pos, cursor.data, n),
-    );
-    text_put::hex(
-        out,
-        at,
-        b",",
-        cursor_write::split_second(cursor.pos, cursor.data, n),
-    )
+    line.hex(cursor_write::split_first(cursor.pos, cursor.data, n));
+    line.text(b",");
+    line.hex(cursor_write::split_second(cursor.pos, cursor.data, n));
 }
 
-fn finished(cursor: &mut WriteCursor, out: &mut [u8], at: usize) -> usize {
+fn finished(cursor: &mut WriteCursor, line: &mut Line<'_>) {
     let done = WriteCursor {
         pos: cursor.pos,
         data: &mut *cursor.data,
     };
-    text_print::hex(out, at, done.finish())
+    line.hex(done.finish());
 }
 
 impl<'d> Walker for WriteCursor<'d> {
-    fn step(&mut self, word: &[u8], out: &mut [u8], at: usize) -> usize {
+    fn step(&mut self, word: &[u8], line: &mut Line<'_>) {
         let tail = replay_base::tail(word);
         let n = decimal(tail);
         match replay_base::letter(word) {
-            b'c' => answered(self.commit(n), out, at),
-            b's' => split(self, n, out, at),
+            b'c' => answered(line, self.commit(n)),
+            b's' => split(self, n, line),
             b't' => {
                 self.truncate(n);
-                text_print::text(out, at, b"ok")
+                line.text(b"ok");
             }
-            b'f' => finished(self, out, at),
+            b'f' => finished(self, line),
             b'z' => {
                 self.reset();
-                text_print::text(out, at, b"ok")
+                line.text(b"ok");
             }
             b'j' => {
                 self.pos = jumped(self.pos, self.data, n);
-                text_print::text(out, at, b"ok")
+                line.text(b"ok");
             }
-            b'p' => answered(append(self, tail), out, at),
-            b'u' => text_print::decimal(out, at, fill(self, tail) as u64),
-            letter => answered(write(self, letter, tail), out, at),
+            b'p' => answered(line, append(self, tail)),
+            b'u' => line.decimal(fill(self, tail) as u64),
+            letter => answered(line, write(self, letter, tail)),
         }
     }
 
@@ -183,40 +177,36 @@ fn ends(word: &[u8]) -> bool
 }
 
 // The steps' answers stand with one blank between them.
-fn joined(out: &mut [u8], at: usize) -> usize
-    ensures value { result ≡ joined_at at out.old }
-    ensures out_after { out.new ≡ joined_line at out.old }
+#[tactic(auto, unfolding(text_print::specs::Lines::behind, text_print::specs::Lines::holding))]
+fn joined(line: &mut Line<'_>)
+    ensures { Puts (joint line.old.pos) line.old line.new }
 {
-    if at == 0 {
-        return 0;
+    if line.pos != 0 {
+        line.text(b" ");
     }
-    text_print::text(out, at, b" ")
 }
 
 // `@POSITION/AVAILABLE`.
-#[tactic(auto, unfolding(text_put::specs::Put::behind, text_put::specs::Put::holding))]
-fn place(out: &mut [u8], at: usize, pos: usize, left: usize) -> usize
-    ensures value { result ≡ behind (place_texts pos left) at out.old }
-    ensures out_after { out.new ≡ holding (place_texts pos left) at out.old }
+#[tactic(auto, unfolding(text_print::specs::Lines::behind, text_print::specs::Lines::holding))]
+fn place(line: &mut Line<'_>, pos: usize, left: usize)
+    ensures { Puts (place_texts pos left) line.old line.new }
 {
-    let at = text_put::count(out, at, b"@", pos as u64);
-    text_put::count(out, at, b"/", left as u64)
+    text_put::count(line, b"@", pos as u64);
+    text_put::count(line, b"/", left as u64);
 }
 
-// The steps of a line, and where the cursor stands after each.
-fn walk<C: Walker>(cursor: &mut C, line: &[u8], out: &mut [u8]) -> usize {
-    let mut at = 0;
+// The steps of a request, and where the cursor stands after each.
+fn walk<C: Walker>(cursor: &mut C, request: &[u8], line: &mut Line<'_>) {
     for k in 3..1000 {
-        let word = text_lines::word(line, k);
+        let word = text_lines::word(request, k);
         if ends(word) {
-            return at;
+            return;
         }
-        at = joined(out, at);
-        at = cursor.step(word, out, at);
+        joined(line);
+        cursor.step(word, line);
         let (pos, left) = cursor.place();
-        at = place(out, at, pos, left);
+        place(line, pos, left);
     }
-    at
 }
 
 // R HEX STEP..
@@ -224,9 +214,11 @@ pub fn read(line: &[u8], out: &mut [u8]) -> usize
     // The line keeps its length; its words are compared with the Rust, and not proved.
     ensures { length out.new ≡ length out.old }
 {
+    let mut reply = Line::new(out);
     let mut buf = [0u8; 64];
     let n = replay_base::bytes(text_lines::word(line, 2), &mut buf);
-    walk(&mut ReadCursor::new(&buf[..n]), line, out)
+    walk(&mut ReadCursor::new(&buf[..n]), line, &mut reply);
+    reply.pos
 }
 
 // W HEX STEP.. The answers to the steps, and behind them what the buffer then holds.
@@ -234,8 +226,10 @@ pub fn write_walk(line: &[u8], out: &mut [u8]) -> usize
     // The line keeps its length; its words are compared with the Rust, and not proved.
     ensures { length out.new ≡ length out.old }
 {
+    let mut reply = Line::new(out);
     let mut buf = [0u8; 64];
     let n = replay_base::bytes(text_lines::word(line, 2), &mut buf);
-    let at = walk(&mut WriteCursor::new(&mut buf[..n]), line, out);
-    text_put::hex(out, at, b" ", &buf[..n])
+    walk(&mut WriteCursor::new(&mut buf[..n]), line, &mut reply);
+    text_put::hex(&mut reply, b" ", &buf[..n]);
+    reply.pos
 }
