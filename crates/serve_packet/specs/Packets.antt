@@ -2,23 +2,20 @@
 -- a packet's answer with what it asks for.
 use Rattle.std.specs.Prelude.{ℕ, Bool, true, false, ◌&&◌, List, [], ◌∷◌, map, length, leb, eqb}
 use Rattle.codec.specs.Cases.{pick, lookup}
-use Rattle.codec.specs.declared.Refusal.{Refusal}
 use Rattle.att.specs.Typed.{part_of}
 use Rattle.att.specs.Wire.{Meaning, shape_of, shape_means, strict}
 use Rattle.att.specs.declared.Att.{Att}
 use Rattle.att.specs.declared.Att.TheVariants.{Client, Server}
 use Rattle.att.specs.declared.AttClient.TheVariants.{Request, Command, Confirmation}
 use Rattle.attributes.specs.declared.Table.{Table}
-use Rattle.answers.specs.Contract.{state_of, answer_of, out_after}
+use Rattle.answers.specs.Contract.{answer_of, out_after}
 use Rattle.answers.specs.Replies.{Reply, Effect, Nothing, Silence, only, nth, Row, Serves, NotServed, served, row_reply, request}
 use Rattle.answers.specs.Serve.{State, spoken, does, answered, asks, first_link}
 use Rattle.answers.specs.View.{View}
 use Rattle.answers.specs.declared.Answer.{Answer}
-use Rattle.answers.specs.declared.Answer.TheVariants as answer
 use Rattle.answers.specs.declared.Link.{Link}
 use Rattle.serve_permit.specs.Permit.{store_to}
 use Rattle.serve_change.specs.Changes.{meant_by}
-use Rattle.serve_change.specs.declared.Pending.TheVariants as effect
 use Rattle.serve_packet.specs.declared.Replied.{Replied}
 
 -- the requests that are served: those of the book's rows, whatever they answer
@@ -65,15 +62,9 @@ replied_of r op room = (answer_of (spoken r.says op room), does r.says room r.ef
 abbrev pub out_behind : Reply → ℕ → List ℕ → List ℕ
 out_behind r op out = out_after (spoken r.says op (length out)) out
 
--- a packet's answer and what it asks for, and the output behind it, of what the code has in hand
-abbrev pub refused_by : Refusal → Replied
-refused_by why = record { answer = answer.Refused why; effect = effect.Nothing }
-
+-- a packet's answer and what it asks for, and the output behind it
 abbrev pub replied_to : State → List ℕ → ℕ → Answer × Effect
 replied_to s p room = (answer_of (answered s p room), asks s p room)
 
-abbrev pub answered_by : Table → Link → List ℕ → List ℕ → List ℕ → ℕ → Answer × Effect
-answered_by t l fixed live p room = replied_to (state_of t l fixed live) p room
-
-abbrev pub heard_out : Table → Link → List ℕ → List ℕ → List ℕ → List ℕ → List ℕ
-heard_out t l fixed live p out = out_after (answered (state_of t l fixed live) p (length out)) out
+abbrev pub heard_out : State → List ℕ → List ℕ → List ℕ
+heard_out s p out = out_after (answered s p (length out)) out

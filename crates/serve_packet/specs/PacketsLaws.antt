@@ -1,5 +1,5 @@
 -- The way of a packet through its tests: each way's answer is the reply of the book. First the requests, then what gets no answer.
-use Rattle.std.specs.Prelude.{ℕ, ◌-◌, ◌≤◌, ◌<◌, Bool, ◌&&◌, ◌≡◌, take, drop, get_or, eqb}
+use Rattle.std.specs.Prelude.{ℕ, ◌-◌, ◌≤◌, ◌<◌, Bool, ◌&&◌, ◌≡◌, take, drop, get_or, eqb, Ok, Err}
 use Rattle.std.proofs.Math.Bool.{true, false}
 use Rattle.std.proofs.Math.Path.{refl, sym, ap}
 use Rattle.std.proofs.Common.{◌∙◌, subst, arith, length-drop, take_all, le-leb}
@@ -10,13 +10,10 @@ use Rattle.std.proofs.lemmas.Bool.{lt-leb}
 use Rattle.codec.specs.Cases.{pick, lookup}
 use Rattle.codec.specs.CasesLaws.{impossible}
 use Rattle.codec.specs.declared.Error.{Error}
-use Rattle.ble_uuid.specs.declared.Uuid.{Uuid}
 use Rattle.att.proofs.RoundTrip.{strict_decodes}
 use Rattle.att.proofs.TypedMeans.{decoded_means}
-use Rattle.att.specs.Typed.{builds, build_of, row_decoded, decoded, show_req, show_server, show_att, part_of, means_shown, meaning_of, read_of}
+use Rattle.att.specs.Typed.{Parsed, builds, build_of, row_decoded, decoded, show_req, show_server, show_att, part_of, means_shown, meaning_of, read_of}
 use Rattle.att.specs.Wire.{first, rows, shape_of, strict, Meaning, meaning, shape_means, Read, Means, NotRead, read}
-use Rattle.att.specs.declared.Parsed.{Parsed}
-use Rattle.att.specs.declared.Parsed.TheVariants.{Packet, Refused}
 use Rattle.att.specs.declared.Att.{Att}
 use Rattle.att.specs.declared.Att.TheVariants.{Client, Server}
 use Rattle.att.specs.declared.AttCfm.{AttCfm}
@@ -31,9 +28,8 @@ use Rattle.att.specs.declared.AttServer.TheVariants.{Response, Unsolicited}
 use Rattle.att.specs.declared.AttUns.TheVariants as uns
 use Rattle.attributes.specs.Records.{entries}
 use Rattle.attributes.specs.declared.Table.{Table}
-use Rattle.answers.specs.Contract.{views_for}
 use Rattle.answers.specs.Replies.{Reply, Effect, Nothing, Silence, Row, Serves, NotServed, doing, only, error, nth, served, row_reply, request, quietly, commanded, command, write, link_ok}
-use Rattle.answers.specs.Serve.{ledger}
+use Rattle.answers.specs.Serve.{State, ledger, views}
 use Rattle.answers.specs.View.{View}
 use Rattle.answers.specs.declared.Link.{Link}
 use Rattle.serve_link.specs.LinkLaws.{sound_legal}
@@ -80,16 +76,16 @@ module _ (op : ℕ) (p : List ℕ) (s : strict (op ∷ p) ≡ true) where
   unfolding read
   reads = rw (strict_decodes op p s)
 
-  decoded_is : (a : Att) → (decoded (op ∷ p)).answer ≡ Packet a → meaning_of a (decoded (op ∷ p)).uuid (op ∷ p) ≡ shape_means op (shape_of op) p
+  decoded_is : (a : Att) → decoded (op ∷ p) ≡ Ok a → meaning_of a (op ∷ p) ≡ shape_means op (shape_of op) p
   decoded_is a e =
-      ap meant (sym (ap (λ (x : Parsed). read_of x (decoded (op ∷ p)).uuid (op ∷ p)) e) ∙ decoded_means (op ∷ p) ∙ reads)
+      ap meant (sym (ap (λ (x : Parsed). read_of x (op ∷ p)) e) ∙ decoded_means (op ∷ p) ∙ reads)
 
-  not_refused : (why : Error) → (decoded (op ∷ p)).answer ≡ Refused why → ⊥
+  not_refused : (why : Error) → decoded (op ∷ p) ≡ Err why → ⊥
   not_refused why e =
-      let z : NotRead ≡ Means (shape_means op (shape_of op) p) = sym (ap (λ (x : Parsed). read_of x (decoded (op ∷ p)).uuid (op ∷ p)) e) ∙ decoded_means (op ∷ p) ∙ reads in
+      let z : NotRead ≡ Means (shape_means op (shape_of op) p) = sym (ap (λ (x : Parsed). read_of x (op ∷ p)) e) ∙ decoded_means (op ∷ p) ∙ reads in
       impossible (cc)
 
-pub strict_packet : (src : List ℕ) → strict src ≡ true → (why : Error) → (decoded src).answer ≡ Refused why → ⊥
+pub strict_packet : (src : List ℕ) → strict src ≡ true → (why : Error) → decoded src ≡ Err why → ⊥
 unfolding strict
 strict_packet [] s why e = impossible (cc)
 strict_packet (o ∷ p) s why e = not_refused o p s why e
@@ -123,13 +119,13 @@ module _ (vs : List View) (l : Link) (op : ℕ) where
       ∙ sym (row_loose o (lookup o (served vs l m.numbers m.tail) NotServed) n)
       ∙ rw (le-leb (length (o ∷ p)) l.mtu k, s)
 
-  pub request_opcode : (src : List ℕ) → op ≡ first src → 0 < length src → strict src ≡ true → (a : Att) → (decoded src).answer ≡ Packet a → op ≡ (show_att a).opcode
+  pub request_opcode : (src : List ℕ) → op ≡ first src → 0 < length src → strict src ≡ true → (a : Att) → decoded src ≡ Ok a → op ≡ (show_att a).opcode
   unfolding means_shown
   request_opcode [] e h s a d = absurd (omega arith)
   request_opcode (o ∷ p) e h s a d = e ∙ sym (ap (λ (m : Meaning). m.opcode) (decoded_is o p s a d))
 
   pub request_typed : (src : List ℕ) → op ≡ first src → 0 < length src → length src ≤ l.mtu → strict src ≡ true → (a : Att)
-      → (decoded src).answer ≡ Packet a → typed_reply vs l op (meaning_of a (decoded src).uuid src) ≡ request_to vs l src
+      → decoded src ≡ Ok a → typed_reply vs l op (meaning_of a src) ≡ request_to vs l src
   unfolding request typed_reply
   request_typed [] e h k s a d = absurd (omega arith)
   request_typed (o ∷ p) e h k s a d =
@@ -138,16 +134,19 @@ module _ (vs : List View) (l : Link) (op : ℕ) where
       ∙ rw (le-leb (length (o ∷ p)) l.mtu k, s)
 
 -- The typed packets: requests, and what is none.
-module _ (t : Table) (l : Link) (fixed live src : List ℕ) (u : Uuid) where
-  abbrev seen : List View
-  seen = views_for t l fixed live
+module _ (till : State) (src : List ℕ) where
+  abbrev l : Link
+  l = till.link
 
-  typed_at : link_ok l ≡ true → (r : AttReq) → request_reply t l fixed live src u r ≡ typed_reply seen l (show_req r).opcode (means_shown (show_req r) u src)
+  abbrev seen : List View
+  seen = views till
+
+  typed_at : link_ok l ≡ true → (r : AttReq) → request_reply till src r ≡ typed_reply seen l (show_req r).opcode (means_shown (show_req r) src)
   unfolding typed_reply row_reply served means_shown shape_of rows ledger
-  typed_at e (req.ReadByGroupType s n) = list_10 s n seen l (sound_legal l e) _ _
-  typed_at e (req.ReadByType s n) = list_08 s n seen l (sound_legal l e) _ _
+  typed_at e (req.ReadByGroupType s n u) = list_10 s n seen l (sound_legal l e) _ _
+  typed_at e (req.ReadByType s n u) = list_08 s n seen l (sound_legal l e) _ _
   typed_at e (req.Read h) = refl
-  typed_at e (req.Write h d) = sym (store_is l.encrypted fixed live h (part_of d src) (entries t))
+  typed_at e (req.Write h d) = sym (store_is l.encrypted till.fixed till.live h (part_of d src) (entries till.table))
   typed_at e (req.ExchangeMtu m) = refl
   typed_at e (req.FindByTypeValue s n k v) = list_06 s n seen l (sound_legal l e) k (part_of v src)
   typed_at e (req.FindInformation s n) = list_04 s n seen l (sound_legal l e) _ _
@@ -158,13 +157,13 @@ module _ (t : Table) (l : Link) (fixed live src : List ℕ) (u : Uuid) where
 
   module _ (op : ℕ) (a : Att) (q : op ≡ (show_att a).opcode) where
     pub typed_request : link_ok l ≡ true → (r : AttReq) → a ≡ Client (Request r)
-        → (op ≡ (show_req r).opcode) × (request_reply t l fixed live src u r ≡ typed_reply seen l op (meaning_of a u src))
+        → (op ≡ (show_req r).opcode) × (request_reply till src r ≡ typed_reply seen l op (meaning_of a src))
     typed_request e r f =
         let o : op ≡ (show_req r).opcode = q ∙ ap (λ (x : Att). (show_att x).opcode) f in
-        (o, typed_at e r ∙ ap (λ (n : ℕ). typed_reply seen l n (means_shown (show_req r) u src)) (sym o) ∙ ap (λ (x : Att). typed_reply seen l op (meaning_of x u src)) (sym f))
+        (o, typed_at e r ∙ ap (λ (n : ℕ). typed_reply seen l n (means_shown (show_req r) src)) (sym o) ∙ ap (λ (x : Att). typed_reply seen l op (meaning_of x src)) (sym f))
 
   module _ (op : ℕ) where
-    server_unserved : (s : AttServer) → error op 0 0x06 ≡ typed_reply seen l op (means_shown (show_server s) u src)
+    server_unserved : (s : AttServer) → error op 0 0x06 ≡ typed_reply seen l op (means_shown (show_server s) src)
     unfolding typed_reply row_reply served means_shown
     server_unserved (Response (rsp.ExchangeMtu m)) = refl
     server_unserved (Response (rsp.FindByTypeValue i)) = refl
@@ -178,22 +177,22 @@ module _ (t : Table) (l : Link) (fixed live src : List ℕ) (u : Uuid) where
     server_unserved (Unsolicited (uns.Notify h d)) = refl
     server_unserved (Unsolicited (uns.Indicate h d)) = refl
 
-    pub typed_server : (a : Att) (s : AttServer) → a ≡ Server s → error op 0 0x06 ≡ typed_reply seen l op (meaning_of a u src)
-    typed_server a s f = server_unserved s ∙ ap (λ (x : Att). typed_reply seen l op (meaning_of x u src)) (sym f)
+    pub typed_server : (a : Att) (s : AttServer) → a ≡ Server s → error op 0 0x06 ≡ typed_reply seen l op (meaning_of a src)
+    typed_server a s f = server_unserved s ∙ ap (λ (x : Att). typed_reply seen l op (meaning_of x src)) (sym f)
 
-    command_unserved : (c : AttCmd) → error op 0 0x06 ≡ typed_reply seen l op (meaning_of (Client (Command c)) u src)
+    command_unserved : (c : AttCmd) → error op 0 0x06 ≡ typed_reply seen l op (meaning_of (Client (Command c)) src)
     unfolding typed_reply row_reply served means_shown
     command_unserved c = refl
 
-    pub typed_command : (a : Att) (c : AttCmd) → a ≡ Client (Command c) → error op 0 0x06 ≡ typed_reply seen l op (meaning_of a u src)
-    typed_command a c f = command_unserved c ∙ ap (λ (x : Att). typed_reply seen l op (meaning_of x u src)) (sym f)
+    pub typed_command : (a : Att) (c : AttCmd) → a ≡ Client (Command c) → error op 0 0x06 ≡ typed_reply seen l op (meaning_of a src)
+    typed_command a c f = command_unserved c ∙ ap (λ (x : Att). typed_reply seen l op (meaning_of x src)) (sym f)
 
-    confirmation_unserved : (c : AttCfm) → error op 0 0x06 ≡ typed_reply seen l op (meaning_of (Client (Confirmation c)) u src)
+    confirmation_unserved : (c : AttCfm) → error op 0 0x06 ≡ typed_reply seen l op (meaning_of (Client (Confirmation c)) src)
     unfolding typed_reply row_reply served means_shown
     confirmation_unserved cfm.ConfirmIndication = refl
 
-    pub typed_confirmation : (a : Att) (c : AttCfm) → a ≡ Client (Confirmation c) → error op 0 0x06 ≡ typed_reply seen l op (meaning_of a u src)
-    typed_confirmation a c f = confirmation_unserved c ∙ ap (λ (x : Att). typed_reply seen l op (meaning_of x u src)) (sym f)
+    pub typed_confirmation : (a : Att) (c : AttCfm) → a ≡ Client (Confirmation c) → error op 0 0x06 ≡ typed_reply seen l op (meaning_of a src)
+    typed_confirmation a c f = confirmation_unserved c ∙ ap (λ (x : Att). typed_reply seen l op (meaning_of x src)) (sym f)
 
 -- What gets no answer.
 module _ (t : Table) (l : Link) (op : ℕ) where
@@ -219,35 +218,35 @@ module _ (t : Table) (l : Link) (op : ℕ) where
   rest_is : (o : ℕ) (p : List ℕ) → take (length p - 2) (drop 3 (o ∷ p)) ≡ drop 2 p
   rest_is o p = take_all (length p - 2) (drop 2 p) (rw (length-drop 2 p) (omega arith))
 
-  typed_52 : (p : List ℕ) → strict (0x52 ∷ p) ≡ true → (a : Att) → (decoded (0x52 ∷ p)).answer ≡ Packet a
+  typed_52 : (p : List ℕ) → strict (0x52 ∷ p) ≡ true → (a : Att) → decoded (0x52 ∷ p) ≡ Ok a
       → command_of t l (0x52 ∷ p) a ≡ (store_to t l (nth (shape_means 0x52 (shape_of 0x52) p).numbers 0) (shape_means 0x52 (shape_of 0x52) p).tail).effect
   unfolding decoded row_decoded build_of builds shape_of rows
   typed_52 p s a d =
       let k = strict_decodes 0x52 p s in
       let c : AttCmd = record { handle = nth (shape_means 0x52 (shape_of 0x52) p).numbers 0; «data» = record { at = 3; len = length p - 2 } } in
-      let z : (decoded (0x52 ∷ p)).answer ≡ Packet (Client (Command c)) = rw k in
-      let f : Packet (Client (Command c)) ≡ Packet a = sym z ∙ d in
+      let z : decoded (0x52 ∷ p) ≡ Ok (Client (Command c)) = rw k in
+      let f : Ok (Client (Command c)) ≡ Ok a = sym z ∙ d in
       let g : Client (Command c) ≡ a = cc in
       ap (command_of t l (0x52 ∷ p)) (sym g) ∙ ap (λ (d : List ℕ). (store_to t l c.handle d).effect) (rest_is 0x52 p)
 
-  pub command_typed : (src : List ℕ) → op ≡ first src → op ≡ 0x52 → strict src ≡ true → length src ≤ l.mtu → (a : Att) → (decoded src).answer ≡ Packet a
+  pub command_typed : (src : List ℕ) → op ≡ first src → op ≡ 0x52 → strict src ≡ true → length src ≤ l.mtu → (a : Att) → decoded src ≡ Ok a
       → command_of t l src a ≡ command_to t l src
   command_typed [] e n s k a d = impossible (omega (arith, e, n))
   command_typed (o ∷ p) e n s k a d = by o (sym e ∙ n) s d where
-    by : (x : ℕ) → x ≡ 0x52 → strict (x ∷ p) ≡ true → (decoded (x ∷ p)).answer ≡ Packet a → command_of t l (x ∷ p) a ≡ command_to t l (x ∷ p)
+    by : (x : ℕ) → x ≡ 0x52 → strict (x ∷ p) ≡ true → decoded (x ∷ p) ≡ Ok a → command_of t l (x ∷ p) a ≡ command_to t l (x ∷ p)
     by x q s d =
-        subst (λ (y : ℕ). strict (y ∷ p) ≡ true → (decoded (y ∷ p)).answer ≡ Packet a → command_of t l (y ∷ p) a ≡ command_to t l (y ∷ p)) (sym q)
+        subst (λ (y : ℕ). strict (y ∷ p) ≡ true → decoded (y ∷ p) ≡ Ok a → command_of t l (y ∷ p) a ≡ command_to t l (y ∷ p)) (sym q)
         (λ s d. typed_52 p s a d ∙ rw (s, le-leb (length (0x52 ∷ p)) l.mtu k)) s d
 
 -- the book's reply to such a packet
-module _ (t : Table) (l : Link) (fixed live : List ℕ) where
-  pub command_is : (op : ℕ) (p : List ℕ) → command (views_for t l fixed live) l op p ≡ doing Silence (command_to t l (op ∷ p))
+module _ (s : State) where
+  pub command_is : (op : ℕ) (p : List ℕ) → command (views s) s.link op p ≡ doing Silence (command_to s.table s.link (op ∷ p))
   unfolding command commanded ledger
   command_is op p =
       let m = shape_means op (shape_of op) p in
-      by (eqb op 0x52 && (strict (op ∷ p) && leb (length (op ∷ p)) l.mtu))
-      (write (views_for t l fixed live) (nth m.numbers 0) m.tail) _
-      (store_is l.encrypted fixed live (nth m.numbers 0) m.tail (entries t))
+      by (eqb op 0x52 && (strict (op ∷ p) && leb (length (op ∷ p)) s.link.mtu))
+      (write (views s) (nth m.numbers 0) m.tail) _
+      (store_is s.link.encrypted s.fixed s.live (nth m.numbers 0) m.tail (entries s.table))
     where
       by : (b : Bool) (w v : Reply) → w ≡ v → pick b (quietly w) (only Silence) ≡ doing Silence (pick b v.effect Nothing)
       by true w v e = ap quietly e

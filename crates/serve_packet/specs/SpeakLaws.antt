@@ -1,23 +1,23 @@
 -- Every request is answered by a packet; what was told is what is heard; and the four refusals come first.
 use Prim.Native.Nat.{ℕ, ◌≤◌, ◌<◌}
-use Rattle.std.specs.Prelude.{Bool, ◌≡◌, refl, length, leb}
+use Rattle.std.specs.Prelude.{Bool, ◌≡◌, refl, length, leb, Ok, Err}
 use Rattle.std.proofs.Math.Bool.{true, false}
 use Rattle.std.proofs.Math.Path.{sym, ap}
 use Rattle.std.proofs.Common.{◌∙◌, subst, arith}
 use mathlib.Core.List.{List, [], ◌∷◌}
-use borrow.Author.Tests.{le-leb, lt-leb}
+use borrow.Author.Tests.{le-leb, lt-leb, leb-true}
+use Rattle.codec.specs.CasesLaws.{both}
+use Rattle.attributes.proofs.AdditionLaws.{each_passed}
 use Rattle.codec.specs.Buffer.{over, laid}
 use Rattle.codec.specs.Cases.{pick}
 use Rattle.codec.specs.declared.Refusal.{Refusal}
 use Rattle.codec.specs.declared.Refusal.TheVariants.{InsufficientSpace, InvalidValue, BadTable, BadLink}
 use Rattle.att.specs.Wire.{first, rows, shape_of, shape_means, Coded, Sent, NotSent, send}
 use Rattle.attributes.specs.Soundness.{sound_table}
-use Rattle.attributes.specs.declared.Outcome.TheVariants as outcome
-use Rattle.attributes.specs.declared.Table.{Table}
-use Rattle.answers.specs.Contract.{views_for, answer_of, out_after}
-use Rattle.answers.specs.Replies.{Says, Packet, Silence, Effect, Nothing, Reply, doing, error, silent, reply_to, link_ok}
+use Rattle.answers.specs.Contract.{answer_of, out_after}
+use Rattle.answers.specs.Replies.{Says, Packet, Silence, Effect, Nothing, Reply, doing, error, silent, reply_to, mtu_ok, link_ok}
 use Rattle.answers.proofs.ReplyLaws.{by_exchange, by_write, by_packets, by_request}
-use Rattle.answers.specs.Serve.{State, sound, views, Bytes, unlikely, coded_heard, coded_does, spoken, does, serve_refusal, answered, asks}
+use Rattle.answers.specs.Serve.{State, sound, views, Bytes, unlikely, coded_heard, coded_does, spoken, does, serve_tests, serve_refusal, answered, asks}
 use Rattle.answers.specs.View.{View}
 use Rattle.answers.specs.declared.Answer.{Answer}
 use Rattle.answers.specs.declared.Answer.TheVariants as answer
@@ -86,18 +86,21 @@ module _ (op : ℕ) (out : List ℕ) (h : 23 ≤ length out) where
   told_out Silence k = absurd k
 
 -- The reply to a packet.
-module _ (t : Table) (l : Link) (fixed live : List ℕ) where
-  abbrev seen : List View
-  seen = views_for t l fixed live
+module _ (till : State) where
+  abbrev l : Link
+  l = till.link
 
-  pub silence : (op : ℕ) (src : List ℕ) (e : Pending) (room : ℕ) → op ≡ first src → 0 < length src → silent op ≡ true → meant_by src e ≡ command_to t l src
+  abbrev seen : List View
+  seen = views till
+
+  pub silence : (op : ℕ) (src : List ℕ) (e : Pending) (room : ℕ) → op ≡ first src → 0 < length src → silent op ≡ true → meant_by src e ≡ command_to till.table l src
       → (◌≡◌ {A = Answer × Effect} (answer.Silent, meant_by src e) (replied_of (reply_to seen l src) (first src) room))
       × ((out : List ℕ) → out ≡ out_after (spoken (reply_to seen l src).says (first src) (length out)) out)
   unfolding reply_to
   silence op [] e room q h s m = absurd (omega arith)
   silence op (o ∷ p) e room q h s m =
       let z : silent o ≡ true = ap silent (sym q) ∙ s in
-      let r : reply_to seen l (o ∷ p) ≡ doing Silence (command_to t l (o ∷ p)) = rw z (command_is t l fixed live o p) in (
+      let r : reply_to seen l (o ∷ p) ≡ doing Silence (command_to till.table l (o ∷ p)) = rw z (command_is till o p) in (
         ap (λ (x : Effect). (answer.Silent, x)) m ∙ sym (ap (λ (x : Reply). replied_of x o room) r),
         λ out. sym (ap (λ (x : Reply). out_after (spoken x.says o (length out)) out) r),
       )
@@ -137,7 +140,7 @@ module _ (s : State) (src out : List ℕ) where
   abbrev Speaks : Answer × Effect → List ℕ → Type 0
   Speaks x w = (x ≡ replied_to s src (length out)) × (w ≡ out_after (answered s src (length out)) out)
 
-  refused : (why : Refusal) → serve_refusal s src (length out) ≡ outcome.Refused why → Speaks (answer.Refused why, Nothing) out
+  pub refused : (why : Refusal) → serve_refusal s src (length out) ≡ Err why → Speaks (answer.Refused why, Nothing) out
   unfolding answered asks
   refused why e = (rw e, rw e)
 
@@ -165,5 +168,19 @@ module _ (s : State) (src out : List ℕ) where
             → Speaks x w
         unfolding answered asks serve_refusal sound
         speak_reply d x w h =
-            let e : serve_refusal s src (length out) ≡ outcome.Accepted = rw (a, b, le-leb s.link.mtu (length out) c, le-leb 1 (length src) (omega arith)) in
+            let e : serve_refusal s src (length out) ≡ Ok tt = rw (a, b, le-leb s.link.mtu (length out) c, le-leb 1 (length src) (omega arith)) in
             (h.0 ∙ rw e, h.1 ∙ rw e)
+
+  -- where no test fails
+  pub passed : serve_refusal s src (length out) ≡ Ok tt → (link_ok s.link ≡ true) × (23 ≤ length out) × (0 < length src)
+  unfolding serve_refusal link_ok mtu_ok
+  passed e =
+      let t = each_passed (serve_tests s src (length out)) e in
+      let least : 23 ≤ s.link.mtu = leb-true 23 s.link.mtu (both (leb 23 s.link.mtu) _ t.1.0).0 in
+      (t.1.0, omega (arith, least, leb-true s.link.mtu (length out) t.1.1.0), omega (arith, leb-true 1 (length src) t.1.1.1.0))
+
+  pub speak_passed : serve_refusal s src (length out) ≡ Ok tt → (x : Answer × Effect) (w : List ℕ)
+      → (x ≡ replied_of (reply_to (views s) s.link src) (first src) (length out)) × (w ≡ out_behind (reply_to (views s) s.link src) (first src) out)
+      → Speaks x w
+  unfolding answered asks
+  speak_passed e x w h = (h.0 ∙ rw e, h.1 ∙ rw e)
