@@ -46,7 +46,7 @@ impl<'d> WriteCursor<'d> {
         ensures pos_after { self.new.pos ≡ truncated self.old.pos npos }
         ensures data_after { self.new.«data».now ≡ self.old.«data».now }
     {
-        self.pos = self.pos.min(npos);
+        self.pos = truncate(self.pos, npos);
     }
 
     // The length of what was written so far: the position.
@@ -74,7 +74,6 @@ impl<'d> WriteCursor<'d> {
     }
 
     // The bytes of a number, written whole or not at all.
-    #[tactic(auto, using(primitives::specs::NumbersLaws::length_bytes))]
     pub fn write<T: Primitive>(&mut self, v: T) -> Result<(), Error>
         ensures same_buffer { self.new.«data».ghost_name ≡ self.old.«data».ghost_name }
         ensures value { result ≡ done (writing self.old.pos self.old.«data».now (bytes_of T.SIZE (T.number v))) }
@@ -82,9 +81,7 @@ impl<'d> WriteCursor<'d> {
         ensures data_after { self.new.«data».now ≡ laid_at self.old.pos (bytes_of T.SIZE (T.number v)) self.old.«data».now }
     {
         let out = &mut *self.data;
-        let next = forward(self.pos, out.len(), T::SIZE)?;
-        v.encode(&mut out[self.pos..])?;
-        self.pos = next;
+        self.pos = write(self.pos, out, v)?;
         Ok(())
     }
 
@@ -95,9 +92,7 @@ impl<'d> WriteCursor<'d> {
         ensures data_after { self.new.«data».now ≡ laid_at self.old.pos src.now self.old.«data».now }
     {
         let out = &mut *self.data;
-        let next = forward(self.pos, out.len(), src.len())?;
-        codec::write_bytes(src, &mut out[self.pos..])?;
-        self.pos = next;
+        self.pos = append(self.pos, out, src)?;
         Ok(())
     }
 
@@ -106,11 +101,7 @@ impl<'d> WriteCursor<'d> {
         ensures { result.now ≡ finished self.entry.pos self.entry.«data».now }
     {
         let WriteCursor { pos, data } = self;
-        if pos <= data.len() {
-            &mut data[..pos]
-        } else {
-            &mut data[..0]
-        }
+        finish(pos, data)
     }
 }
 
