@@ -1,7 +1,7 @@
 -- The texts of the items of a response, one behind the other: item=HANDLE:TYPE, item=HANDLE:END or item=HANDLE:HEX for each item, as
 -- the programs' page has them.
-use Rattle.std.specs.Prelude.{ℕ, Option, Some, None, length, drop, eqb}
-use mathlib.Core.List.{List, ◌++◌, flat_map}
+use Rattle.std.specs.Prelude.{ℕ, Option, Some, None, option_map, length, drop, eqb}
+use mathlib.Core.List.{List, [], ◌++◌, flat_map}
 use Rattle.codec.specs.Ascii.{ascii}
 use Rattle.codec.specs.Cases.{pick}
 use Rattle.primitives.specs.Numbers.{number_at}
@@ -9,8 +9,7 @@ use Rattle.ble_uuid.specs.Uuids.{uuid_of}
 use Rattle.att.specs.Typed.{show_att}
 use Rattle.att.specs.declared.Att.{Att}
 use Rattle.att_items.specs.Iterators.{Step, found_bytes, item_shown, walk}
-use Rattle.text_put.specs.Put.{behind, holding, numbered, hexed, typed}
-use Rattle.explain_items.specs.declared.Shown.{Shown}
+use Rattle.text_put.specs.Put.{numbered, hexed, typed}
 
 -- A kind of items: the two opcodes that have them, and the texts of an item `i`.
 pub record Kind : Type 0 where
@@ -37,21 +36,19 @@ kind_of op = pick (eqb op 0x05) informations (pick (eqb op 0x07) ranges values)
 abbrev pub step_in : Kind → Att → List ℕ → ℕ → Step
 step_in k att src pos = item_shown k.first k.second (show_att att) src pos
 
--- what is answered for it where it is written at `at`, and what the line then holds
-abbrev pub shown_as : (List ℕ → List (List ℕ)) → Step → List ℕ → ℕ → List ℕ → Option Shown
-shown_as texts None src at out = None
-shown_as texts (Some f) src at out = Some (record { at = behind (texts (found_bytes f src)) at out; next = f.next })
+-- its texts, none where there is none, and the position of the next item
+abbrev pub step_texts : (List ℕ → List (List ℕ)) → Step → List ℕ → List (List ℕ)
+step_texts texts None src = []
+step_texts texts (Some f) src = texts (found_bytes f src)
 
-abbrev pub line_as : (List ℕ → List (List ℕ)) → Step → List ℕ → ℕ → List ℕ → List ℕ
-line_as texts None src at out = out
-line_as texts (Some f) src at out = holding (texts (found_bytes f src)) at out
+abbrev pub item_texts : Kind → Att → List ℕ → ℕ → List (List ℕ)
+item_texts k att src pos = step_texts k.texts (step_in k att src pos) src
 
--- the same of the item at a position
-abbrev pub shown_at : Kind → Att → List ℕ → ℕ → ℕ → List ℕ → Option Shown
-shown_at k att src at pos out = shown_as k.texts (step_in k att src pos) src at out
+abbrev pub next_of : Step → Option ℕ
+next_of st = option_map (λ f. f.next) st
 
-abbrev pub line_at : Kind → Att → List ℕ → ℕ → ℕ → List ℕ → List ℕ
-line_at k att src at pos out = line_as k.texts (step_in k att src pos) src at out
+abbrev pub next_in : Kind → Att → List ℕ → ℕ → Option ℕ
+next_in k att src pos = next_of (step_in k att src pos)
 
 -- the texts of the items from a position on, `n` of them at the most
 unfoldable pub texts_from : Kind → Att → List ℕ → ℕ → ℕ → List (List ℕ)

@@ -1,106 +1,102 @@
 -- Laws of the items' texts, in the shapes that the proofs of the code ask for.
-use Prim.Native.Nat.{ℕ, suc, ◌-◌, ◌<◌, ◌≤◌}
-use Rattle.std.specs.Prelude.{◌≡◌, ◌+◌, refl, Option, Some, None}
-use Rattle.std.proofs.Math.Path.{sym, ap}
-use Rattle.std.proofs.Common.{◌∙◌, arith}
-use mathlib.Core.List.{List, [], ◌∷◌, ◌++◌, flat_map}
+use Rattle.std.specs.Prelude.{ℕ, suc, ◌+◌, ◌-◌, ◌<◌, ◌≤◌, ◌≡◌, refl, Some, None, length}
+use Rattle.std.proofs.Common.{sym, ap, ◌∙◌, arith, append_assoc, append-nil}
+use mathlib.Core.List.{List, [], ◌++◌, flat_map}
 use Rattle.codec.specs.CasesLaws.{impossible}
 use Rattle.codec.specs.Ascii.{ascii}
 use Rattle.att.specs.declared.Att.{Att}
-use Rattle.att_items.specs.Iterators.{Step, found_bytes, pair_at, pair_of, information_at, information_of, value_at, value_of, rest_of, walk}
+use Rattle.att_items.specs.Iterators.{Step, found_bytes, pair_at, pair_of, information_at, information_of, value_at, value_of, rest_of}
 use Rattle.att_items.specs.declared.HandlePair.{HandlePair}
 use Rattle.att_items.specs.declared.HandleUuid.{HandleUuid}
 use Rattle.att_items.specs.declared.HandleValue.{HandleValue}
-use Rattle.text_print.specs.Print.{hex_text, type_text}
-use Rattle.text_put.specs.Put.{behind, holding, numbered}
-use Rattle.text_put.specs.PutLaws.{Wrote, behind_append, holding_append}
-use Rattle.explain_items.specs.Items.{Kind, informations, ranges, values, step_in, shown_as, line_as, shown_at, line_at, texts_from}
-use Rattle.explain_items.specs.declared.Shown.{Shown}
+use Rattle.text_print.specs.declared.Line.{Line}
+use Rattle.text_print.specs.Lines.{Puts, behind, holding}
+use Rattle.text_put.specs.Put.{numbered, hexed, typed}
+use Rattle.text_put.specs.PutLaws.{puts_then}
+use Rattle.explain_items.specs.Items.{Kind, informations, ranges, values, step_in, step_texts, item_texts, next_in, next_of, texts_from}
 
-abbrev pub shown : ℕ → ℕ → Option Shown
-shown at next = Some (record { at = at; next = next })
+-- the texts of the item that is there, and the position behind it
+pub range_item : (st : Step) (src : List ℕ) (i : HandlePair) → Some i ≡ pair_of st src
+    → (step_texts ranges.texts st src ≡ numbered (ascii " item=") i.handle ++ numbered (ascii ":") i.end) × (Some i.next ≡ next_of st)
+range_item None src i q = impossible (cc)
+range_item (Some f) src i q = let k : i ≡ pair_at (found_bytes f src) f.next = cc in rw k (refl, refl)
 
--- an item of Find By Type Value Response
-pub range_item : (st : Step) (src : List ℕ) (at : ℕ) (out : List ℕ) (i : HandlePair) (r : ℕ) (w : List ℕ) → Some i ≡ pair_of st src
-    → Wrote (numbered (ascii " item=") i.handle ++ numbered (ascii ":") i.end) at out r w
-    → (shown r i.next ≡ shown_as ranges.texts st src at out) × (w ≡ line_as ranges.texts st src at out)
-range_item None src at out i r w q p = impossible (cc)
-range_item (Some f) src at out i r w q p =
-    let k : i ≡ pair_at (found_bytes f src) f.next = cc in
-    let o = rw k at p in rw k (ap (λ (t : ℕ). shown t f.next) o.0, o.1)
+pub information_item : (st : Step) (src : List ℕ) (i : HandleUuid) → Some i ≡ information_of st src
+    → (step_texts informations.texts st src ≡ numbered (ascii " item=") i.handle ++ typed (ascii ":") i.uuid) × (Some i.next ≡ next_of st)
+information_item None src i q = impossible (cc)
+information_item (Some f) src i q = let k : i ≡ information_at (found_bytes f src) f.next = cc in rw k (refl, refl)
 
--- an item of Find Information Response
-pub information_item : (st : Step) (src : List ℕ) (at : ℕ) (out : List ℕ) (i : HandleUuid) (r : ℕ) (w : List ℕ) → Some i ≡ information_of st src
-    → Wrote (numbered (ascii " item=") i.handle ++ (ascii ":" ∷ type_text i.uuid ∷ [])) at out r w
-    → (shown r i.next ≡ shown_as informations.texts st src at out) × (w ≡ line_as informations.texts st src at out)
-information_item None src at out i r w q p = impossible (cc)
-information_item (Some f) src at out i r w q p =
-    let k : i ≡ information_at (found_bytes f src) f.next = cc in
-    let o = rw k at p in rw k (ap (λ (t : ℕ). shown t f.next) o.0, o.1)
+pub value_item_lem : (st : Step) (src : List ℕ) (i : HandleValue) (rest : List ℕ) → Some i ≡ value_of st src → rest ≡ rest_of st src
+    → (step_texts values.texts st src ≡ numbered (ascii " item=") i.handle ++ hexed (ascii ":") rest) × (Some i.next ≡ next_of st)
+value_item_lem None src i rest q f = impossible (cc)
+value_item_lem (Some g) src i rest q f = let k : i ≡ value_at g.at (found_bytes g src) g.next = cc in rw (k, f) (refl, refl)
 
--- an item of Read By Type Response or Read By Group Type Response
-pub value_item_lem : (st : Step) (src : List ℕ) (at : ℕ) (out : List ℕ) (i : HandleValue) (r : ℕ) (rest w : List ℕ) → Some i ≡ value_of st src
-    → rest ≡ rest_of st src → Wrote (numbered (ascii " item=") i.handle ++ (ascii ":" ∷ hex_text rest ∷ [])) at out r w
-    → (shown r i.next ≡ shown_as values.texts st src at out) × (w ≡ line_as values.texts st src at out)
-value_item_lem None src at out i r rest w q f p = impossible (cc)
-value_item_lem (Some g) src at out i r rest w q f p =
-    let k : i ≡ value_at g.at (found_bytes g src) g.next = cc in
-    let o = rw (f, k) at p in rw k (ap (λ (t : ℕ). shown t g.next) o.0, o.1)
+-- the end has no texts
+module _ (texts : List ℕ → List (List ℕ)) where
+  pub range_end : (st : Step) (src : List ℕ) → None ≡ pair_of st src → step_texts texts st src ≡ []
+  range_end None src q = refl
+  range_end (Some f) src q = impossible (cc)
 
--- How far the items are written: what is still to be written behind `at` makes the whole line.
-pub record Writing (k : Kind) (att : Att) (src : List ℕ) (start : ℕ) (before : List ℕ) (all : ℕ) (at : ℕ) (out : List ℕ) (pos left : ℕ) : Type 0 where
-  pub place : behind (texts_from k att src all 0) start before ≡ behind (texts_from k att src left pos) at out
-  pub line : holding (texts_from k att src all 0) start before ≡ holding (texts_from k att src left pos) at out
+  pub information_end : (st : Step) (src : List ℕ) → None ≡ information_of st src → step_texts texts st src ≡ []
+  information_end None src q = refl
+  information_end (Some f) src q = impossible (cc)
 
-pub nothing_written : (k : Kind) (att : Att) (src : List ℕ) (start : ℕ) (before : List ℕ) (all : ℕ) → Writing k att src start before all start before 0 all
-nothing_written k att src start before all = record { place = refl; line = refl }
+  pub value_end : (st : Step) (src : List ℕ) → None ≡ value_of st src → step_texts texts st src ≡ []
+  value_end None src q = refl
+  value_end (Some f) src q = impossible (cc)
+
+-- How far the items are put on the line: what stands there and what is still to be put are all of them.
+pub record Putting (k : Kind) (att : Att) (src : List ℕ) (before now : Line) (pos left : ℕ) : Type 0 where
+  pub done : List (List ℕ)
+  pub puts : Puts done before now
+  pub whole : done ++ texts_from k att src left pos ≡ texts_from k att src (length src) 0
 
 module _ (k : Kind) (att : Att) (src : List ℕ) where
-  -- the texts of the items from an item on, and from the end on
-  from_step : (n at : ℕ) (out : List ℕ) (pos : ℕ) (st : Step) (s : Shown) (w : List ℕ) → step_in k att src pos ≡ st
-      → Some s ≡ shown_as k.texts st src at out → w ≡ line_as k.texts st src at out
-      → (behind (texts_from k att src (suc n) pos) at out ≡ behind (texts_from k att src n s.next) s.at w)
-      × (holding (texts_from k att src (suc n) pos) at out ≡ holding (texts_from k att src n s.next) s.at w)
+  -- the texts from an item on, and from the end on
+  from_step : (n pos next : ℕ) (st : Step) → step_in k att src pos ≡ st → Some next ≡ next_of st
+      → texts_from k att src (suc n) pos ≡ step_texts k.texts st src ++ texts_from k att src n next
   unfolding texts_from flat_map
-  from_step n at out pos None s w e f g = impossible (cc)
-  from_step n at out pos (Some d) s w e f g =
-      let i : List ℕ = found_bytes d src in
-      let v : s ≡ record { at = behind (k.texts i) at out; next = d.next } = cc in
-      let t : flat_map k.texts (walk (suc n) (step_in k att src) src pos) ≡ k.texts i ++ flat_map k.texts (walk n (step_in k att src) src d.next) = rw e in
-      rw (v, g) (
-        ap (λ (ts : List (List ℕ)). behind ts at out) t ∙ behind_append (k.texts i) (flat_map k.texts (walk n (step_in k att src) src d.next)) at out,
-        ap (λ (ts : List (List ℕ)). holding ts at out) t ∙ holding_append (k.texts i) (flat_map k.texts (walk n (step_in k att src) src d.next)) at out,
-      )
+  from_step n pos next None e f = impossible (cc)
+  from_step n pos next (Some d) e f = let g : next ≡ d.next = cc in rw (e, g) refl
 
-  at_end : (n at : ℕ) (out : List ℕ) (pos : ℕ) (st : Step) (w : List ℕ) → step_in k att src pos ≡ st → None ≡ shown_as k.texts st src at out
-      → w ≡ line_as k.texts st src at out
-      → (at ≡ behind (texts_from k att src (suc n) pos) at out) × (w ≡ holding (texts_from k att src (suc n) pos) at out)
-  unfolding texts_from flat_map behind holding
-  at_end n at out pos None w e f g = rw (e, g) (refl, refl)
-  at_end n at out pos (Some d) w e f g = impossible (cc)
+  at_end : (n pos : ℕ) (st : Step) → step_in k att src pos ≡ st → None ≡ next_of st
+      → (texts_from k att src (suc n) pos ≡ []) × (step_texts k.texts st src ≡ [])
+  unfolding texts_from flat_map
+  at_end n pos None e f = (rw e refl, refl)
+  at_end n pos (Some d) e f = impossible (cc)
 
-  module _ (start : ℕ) (before : List ℕ) (all : ℕ) where
-    pub more_written : (at : ℕ) (out : List ℕ) (pos turns : ℕ) (s : Shown) (w : List ℕ) → Writing k att src start before all at out pos (all - turns)
-        → turns < all → Some s ≡ shown_at k att src at pos out → w ≡ line_at k att src at pos out
-        → Writing k att src start before all s.at w s.next (all - (turns + 1))
-    more_written at out pos turns s w p h q g =
-        let e : all - turns ≡ suc (all - (turns + 1)) = omega arith in
-        let t = from_step (all - (turns + 1)) at out pos (step_in k att src pos) s w refl q g in
-        let o = rw e at p in
-        record { place = o.place ∙ t.0; line = o.line ∙ t.1 }
+  module _ (before : Line) where
+    pub nothing_put : Putting k att src before before 0 (length src - 0)
+    unfolding behind holding
+    nothing_put = let z : length src - 0 ≡ length src = omega arith in rw z (record { done = []; puts = (refl, refl, refl); whole = refl })
 
-    pub all_written : (at : ℕ) (out : List ℕ) (pos turns : ℕ) (w : List ℕ) → Writing k att src start before all at out pos (all - turns) → turns < all
-        → None ≡ shown_at k att src at pos out → w ≡ line_at k att src at pos out → Wrote (texts_from k att src all 0) start before at w
-    all_written at out pos turns w p h q g =
-        let e : all - turns ≡ suc (all - (turns + 1)) = omega arith in
-        let t = at_end (all - (turns + 1)) at out pos (step_in k att src pos) w refl q g in
-        let o = rw e at p in
-        (t.0 ∙ sym o.place, t.1 ∙ sym o.line)
+    pub more_put : (now new : Line) (pos turns next : ℕ) → Putting k att src before now pos (length src - turns) → turns < length src
+        → Some next ≡ next_in k att src pos → Puts (item_texts k att src pos) now new → Putting k att src before new next (length src - (turns + 1))
+    more_put now new pos turns next p h f q =
+        let e : length src - turns ≡ suc (length src - (turns + 1)) = omega arith in
+        let t = from_step (length src - (turns + 1)) pos next (step_in k att src pos) refl f in
+        record {
+          done = p.done ++ item_texts k att src pos;
+          puts = puts_then p.done (item_texts k att src pos) before now new p.puts q;
+          whole =
+              append_assoc p.done (item_texts k att src pos) (texts_from k att src (length src - (turns + 1)) next)
+              ∙ ap (λ (l : List (List ℕ)). p.done ++ l) (sym t)
+              ∙ (rw e at p.whole);
+        }
 
-    pub used_up : (at : ℕ) (out : List ℕ) (pos turns : ℕ) → Writing k att src start before all at out pos (all - turns) → all ≤ turns
-        → Wrote (texts_from k att src all 0) start before at out
-    unfolding texts_from flat_map behind holding
-    used_up at out pos turns p h =
-        let e : all - turns ≡ 0 = omega arith in
-        let o = rw e at p in
-        (sym o.place, sym o.line)
+    pub all_put : (now new : Line) (pos turns : ℕ) → Putting k att src before now pos (length src - turns) → turns < length src
+        → None ≡ next_in k att src pos → Puts (item_texts k att src pos) now new → Puts (texts_from k att src (length src) 0) before new
+    all_put now new pos turns p h f q =
+        let e : length src - turns ≡ suc (length src - (turns + 1)) = omega arith in
+        let t = at_end (length src - (turns + 1)) pos (step_in k att src pos) refl f in
+        let w : p.done ++ item_texts k att src pos ≡ texts_from k att src (length src) 0 =
+        ap (λ (l : List (List ℕ)). p.done ++ l) (t.1 ∙ sym t.0) ∙ (rw e at p.whole) in
+        rw (sym w) (puts_then p.done (item_texts k att src pos) before now new p.puts q)
+
+    pub used_up : (now : Line) (pos turns : ℕ) → Putting k att src before now pos (length src - turns) → length src ≤ turns
+        → Puts (texts_from k att src (length src) 0) before now
+    unfolding texts_from flat_map
+    used_up now pos turns p h =
+        let e : length src - turns ≡ 0 = omega arith in
+        let w : p.done ≡ texts_from k att src (length src) 0 = sym (append-nil p.done) ∙ (rw e at p.whole) in
+        rw (sym w) p.puts

@@ -1,82 +1,71 @@
 // Packets in words: the items of a response.
 //
-// A line is built at positions of a lent buffer: each function answers the position behind what it
-// wrote. The texts of the items are in specs/, as the programs' page has them.
+// Each function puts its texts behind those that stand on the line. The texts of the items are in
+// specs/, as the programs' page has them.
 #![tactic(auto)]
 
 ghost use Rattle.std.specs.Prelude.{◌≡◌};
-ghost use Rattle.text_put.specs.Put.{behind, holding};
-ghost use Rattle.explain_items.specs.Items.{informations, ranges, values, kind_of, shown_at, line_at, items_texts};
+ghost use Rattle.text_print.specs.Lines.{Puts};
+ghost use Rattle.explain_items.specs.Items.{informations, ranges, values, kind_of, next_in, item_texts, items_texts};
 
 use att::Att;
 use att_items::{HandlePair, HandleUuid, HandleValue};
+use text_print::Line;
 
-// What an item was written as: the position behind it on the line, and the position of the next item.
-#[derive(Clone, Copy)]
-struct Shown {
-    at: usize,
-    next: usize,
-}
-
-// An item of Find By Type Value Response.
-fn range(att: Att, src: &[u8], out: &mut [u8], at: usize, pos: usize) -> Option<Shown>
-    ensures value { result ≡ shown_at ranges att src.now at pos out.old }
-    ensures out_after { out.new ≡ line_at ranges att src.now at pos out.old }
+// An item of Find By Type Value Response, and the position of the next item; none where there is none.
+fn range(att: Att, src: &[u8], line: &mut Line<'_>, pos: usize) -> Option<usize>
+    ensures value { result ≡ next_in ranges att src.now pos }
+    ensures line_after { Puts (item_texts ranges att src.now pos) line.old line.new }
 {
     let HandlePair { handle, end, next } = att_items::find_by_type_value_next(att, src, pos)?;
-    let at = text_put::word(out, at, b" item=", handle);
-    let at = text_put::word(out, at, b":", end);
-    Some(Shown { at, next })
+    text_put::word(line, b" item=", handle);
+    text_put::word(line, b":", end);
+    Some(next)
 }
 
 // An item of Find Information Response.
-fn information(att: Att, src: &[u8], out: &mut [u8], at: usize, pos: usize) -> Option<Shown>
-    ensures value { result ≡ shown_at informations att src.now at pos out.old }
-    ensures out_after { out.new ≡ line_at informations att src.now at pos out.old }
+fn information(att: Att, src: &[u8], line: &mut Line<'_>, pos: usize) -> Option<usize>
+    ensures value { result ≡ next_in informations att src.now pos }
+    ensures line_after { Puts (item_texts informations att src.now pos) line.old line.new }
 {
     let HandleUuid { handle, uuid, next } = att_items::find_information_next(att, src, pos)?;
-    let at = text_put::word(out, at, b" item=", handle);
-    let at = text_put::kind(out, at, b":", uuid);
-    Some(Shown { at, next })
+    text_put::word(line, b" item=", handle);
+    text_put::kind(line, b":", uuid);
+    Some(next)
 }
 
 // An item of Read By Type Response or Read By Group Type Response.
-fn value(att: Att, src: &[u8], out: &mut [u8], at: usize, pos: usize) -> Option<Shown>
-    ensures value { result ≡ shown_at values att src.now at pos out.old }
-    ensures out_after { out.new ≡ line_at values att src.now at pos out.old }
+fn value(att: Att, src: &[u8], line: &mut Line<'_>, pos: usize) -> Option<usize>
+    ensures value { result ≡ next_in values att src.now pos }
+    ensures line_after { Puts (item_texts values att src.now pos) line.old line.new }
 {
     let HandleValue { handle, next, .. } = att_items::read_by_type_next(att, src, pos)?;
-    let rest = att_items::read_by_type_rest(att, src, pos);
-    let at = text_put::word(out, at, b" item=", handle);
-    let at = text_put::hex(out, at, b":", rest);
-    Some(Shown { at, next })
+    text_put::word(line, b" item=", handle);
+    text_put::hex(line, b":", att_items::read_by_type_rest(att, src, pos));
+    Some(next)
 }
 
 // An item of the response with this opcode.
-fn item(op: u8, att: Att, src: &[u8], out: &mut [u8], at: usize, pos: usize) -> Option<Shown>
-    ensures value { result ≡ shown_at (kind_of op) att src.now at pos out.old }
-    ensures out_after { out.new ≡ line_at (kind_of op) att src.now at pos out.old }
+fn item(op: u8, att: Att, src: &[u8], line: &mut Line<'_>, pos: usize) -> Option<usize>
+    ensures value { result ≡ next_in (kind_of op) att src.now pos }
+    ensures line_after { Puts (item_texts (kind_of op) att src.now pos) line.old line.new }
 {
     match op {
-        0x05 => information(att, src, out, at, pos),
-        0x07 => range(att, src, out, at, pos),
-        _ => value(att, src, out, at, pos),
+        0x05 => information(att, src, line, pos),
+        0x07 => range(att, src, line, pos),
+        _ => value(att, src, line, pos),
     }
 }
 
 // All items. A packet has fewer items than bytes.
-pub fn items(op: u8, att: Att, src: &[u8], out: &mut [u8], start: usize) -> usize
-    ensures value { result ≡ behind (items_texts op att src.now) start out.old }
-    ensures out_after { out.new ≡ holding (items_texts op att src.now) start out.old }
+pub fn items(op: u8, att: Att, src: &[u8], line: &mut Line<'_>)
+    ensures { Puts (items_texts op att src.now) line.old line.new }
 {
-    let mut at = start;
     let mut pos = 0;
     for _ in 0..src.len() {
-        let Some(shown) = item(op, att, src, out, at, pos) else {
-            return at;
+        let Some(next) = item(op, att, src, line, pos) else {
+            return;
         };
-        at = shown.at;
-        pos = shown.next;
+        pos = next;
     }
-    at
 }

@@ -1,31 +1,13 @@
--- The texts of a packet that is known, and that every error's text has room in 256 bytes, in the shapes that the proofs of the code ask for.
-use Rattle.std.specs.Prelude.{ℕ, ◌≡◌, refl, Bool, true, false, ◌&&◌, List, [], ◌∷◌, length, replicate, leb, eqb}
+-- Every error's text has room in 256 bytes.
+use Rattle.std.specs.Prelude.{ℕ, ◌≡◌, refl, Bool, true, false, ◌&&◌, List, [], ◌∷◌, Err, length, replicate, leb, eqb}
 use Rattle.std.proofs.Common.{arith, length-append, le-leb}
 use Rattle.codec.specs.Buffer.{written}
 use Rattle.codec.specs.Cases.{pick, lookup}
 use Rattle.codec.specs.CasesLaws.{both}
 use Rattle.codec.specs.declared.Error.{Error}
-use Rattle.codec.specs.declared.Written.TheVariants.{Refused}
 use Rattle.text_decimal.specs.DecimalLaws.{decimal_most}
-use Rattle.att.specs.declared.Att.{Att}
-use Rattle.att.specs.declared.AttRsp.{AttRsp}
-use Rattle.att.specs.declared.AttUns.{AttUns}
-use Rattle.att.specs.declared.AttServer.{AttServer}
 use Rattle.att_error.specs.Texts.{texts, application, unknown, shared, text_of}
-use Rattle.text_put.specs.PutLaws.{Wrote, not_refused}
-use Rattle.explain_server.specs.Servers.{response_texts, unsolicited_texts, server_texts}
-
-pub response_as : (r q : AttRsp) (att : Att) (src : List ℕ) (pos : ℕ) (out : List ℕ) (n : ℕ) (w : List ℕ) → r ≡ q
-    → Wrote (response_texts q att src) pos out n w → Wrote (response_texts r att src) pos out n w
-response_as r q att src pos out n w e h = rw e h
-
-pub unsolicited_as : (u v : AttUns) (src : List ℕ) (pos : ℕ) (out : List ℕ) (n : ℕ) (w : List ℕ) → u ≡ v
-    → Wrote (unsolicited_texts v src) pos out n w → Wrote (unsolicited_texts u src) pos out n w
-unsolicited_as u v src pos out n w e h = rw e h
-
-pub server_as : (s t : AttServer) (att : Att) (src : List ℕ) (pos : ℕ) (out : List ℕ) (n : ℕ) (w : List ℕ) → s ≡ t
-    → Wrote (server_texts t att src) pos out n w → Wrote (server_texts s att src) pos out n w
-server_as s t att src pos out n w e h = rw e h
+use Rattle.text_put.specs.PutLaws.{not_refused}
 
 -- a row's text is short, and so is that of every other code
 abbrev short : List ℕ → Bool
@@ -70,5 +52,5 @@ unfolding text_of
 text_short code = looked_up_lem code texts (shared code) rows_short (shared_short code)
 
 -- no text is refused by 256 bytes
-pub text_fits : (code : ℕ) (x : Error) → written (text_of code) (replicate 256 0) ≡ Refused x → ⊥
+pub text_fits : (code : ℕ) (x : Error) → written (text_of code) (replicate 256 0) ≡ Err x → ⊥
 text_fits code x w = not_refused (text_of code) (replicate 256 0) x (text_short code) w

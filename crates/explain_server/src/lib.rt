@@ -1,121 +1,95 @@
 // Packets in words: what servers send.
 //
-// A line is built at positions of a lent buffer: each function answers the position behind what it
-// wrote. The texts of each packet are in specs/, as the programs' page has them.
+// Each function puts its texts behind those that stand on the line. The texts of each packet are in
+// specs/, as the programs' page has them.
 #![tactic(auto)]
 
-ghost use Rattle.std.specs.Prelude.{◌≡◌};
-ghost use Rattle.text_put.specs.Put.{behind, holding};
-ghost use Rattle.explain_server.specs.Servers.{meaning_texts, error_texts, response_texts, unsolicited_texts, server_texts, format_texts};
+ghost use Rattle.text_print.specs.Lines.{Puts};
+ghost use Rattle.explain_server.specs.Servers.{meaning_texts, error_texts, response_texts, unsolicited_texts, server_texts};
 
-use att::{Att, AttRsp, AttServer, AttUns, FindInformationUuidFormat};
+use att::{Att, AttRsp, AttServer, AttUns};
 use att_error::AttErrorCode;
-use codec::Written;
+use text_print::Line;
 
 // The text of an error code, in parentheses.
-fn meaning(out: &mut [u8], pos: usize, code: u8) -> usize
-    ensures value { result ≡ behind (meaning_texts code) pos out.old }
-    ensures out_after { out.new ≡ holding (meaning_texts code) pos out.old }
+fn meaning(line: &mut Line<'_>, code: u8)
+    ensures { Puts (meaning_texts code) line.old line.new }
 {
     let mut spelt = [0u8; 256];
-    let at = text_print::text(out, pos, b" (");
-    match att_text::write_text(code, &mut spelt) {
-        Written::Done(n) => {
-            let at = text_print::text(out, at, text_put::first(&spelt, n));
-            text_print::text(out, at, b")")
-        }
-        Written::Refused(_) => text_print::text(out, at, b")"),
+    line.text(b" (");
+    if let Ok(n) = att_text::write_text(code, &mut spelt) {
+        line.text(text_put::first(&spelt, n));
     }
+    line.text(b")");
 }
 
-fn error(out: &mut [u8], pos: usize, request: u8, handle: u16, code: AttErrorCode) -> usize
-    ensures value { result ≡ behind (error_texts request handle code.value) pos out.old }
-    ensures out_after { out.new ≡ holding (error_texts request handle code.value) pos out.old }
+fn error(line: &mut Line<'_>, request: u8, handle: u16, code: AttErrorCode)
+    ensures { Puts (error_texts request handle code.value) line.old line.new }
 {
-    let at = text_put::byte(out, pos, b"Error request=", request);
-    let at = text_put::word(out, at, b" handle=", handle);
-    let at = text_put::byte(out, at, b" code=", code.value);
-    meaning(out, at, code.value)
-}
-
-fn format_byte(out: &mut [u8], pos: usize, format: FindInformationUuidFormat) -> usize
-    ensures value { result ≡ behind (format_texts format) pos out.old }
-    ensures out_after { out.new ≡ holding (format_texts format) pos out.old }
-{
-    text_put::byte(out, pos, b"FindInformation format=", format.to_u8())
+    text_put::byte(line, b"Error request=", request);
+    text_put::word(line, b" handle=", handle);
+    text_put::byte(line, b" code=", code.value);
+    meaning(line, code.value);
 }
 
 // A response's name and its fields.
-fn response(r: AttRsp, att: Att, src: &[u8], out: &mut [u8], at: usize) -> usize
-    ensures value { result ≡ behind (response_texts r att src.now) at out.old }
-    ensures out_after { out.new ≡ holding (response_texts r att src.now) at out.old }
+fn response(r: AttRsp, att: Att, src: &[u8], line: &mut Line<'_>)
+    ensures { Puts (response_texts r att src.now) line.old line.new }
 {
     match r {
-        AttRsp::ExchangeMtu { mtu } => text_put::word(out, at, b"ExchangeMtu mtu=", mtu),
-        AttRsp::FindByTypeValue { items: _ } => {
-            let at = text_print::text(out, at, b"FindByTypeValue");
-            explain_items::items(0x07, att, src, out, at)
+        AttRsp::ExchangeMtu { mtu } => text_put::word(line, b"ExchangeMtu mtu=", mtu),
+        AttRsp::FindByTypeValue { .. } => {
+            line.text(b"FindByTypeValue");
+            explain_items::items(0x07, att, src, line);
         }
-        AttRsp::FindInformation { format, items: _ } => {
-            let at = format_byte(out, at, format);
-            explain_items::items(0x05, att, src, out, at)
+        AttRsp::FindInformation { format, .. } => {
+            text_put::byte(line, b"FindInformation format=", u8::from(format));
+            explain_items::items(0x05, att, src, line);
         }
         AttRsp::Error {
             request,
             handle,
             code,
-        } => error(out, at, request, handle, code),
-        AttRsp::ReadByType { item_len, items: _ } => {
-            let at = text_put::count(out, at, b"ReadByType item_len=", item_len as u64);
-            explain_items::items(0x09, att, src, out, at)
+        } => error(line, request, handle, code),
+        AttRsp::ReadByType { item_len, .. } => {
+            text_put::count(line, b"ReadByType item_len=", item_len as u64);
+            explain_items::items(0x09, att, src, line);
         }
-        AttRsp::ReadByGroupType { item_len, items: _ } => {
-            let at = text_put::count(out, at, b"ReadByGroupType item_len=", item_len as u64);
-            explain_items::items(0x11, att, src, out, at)
+        AttRsp::ReadByGroupType { item_len, .. } => {
+            text_put::count(line, b"ReadByGroupType item_len=", item_len as u64);
+            explain_items::items(0x11, att, src, line);
         }
-        AttRsp::Read { data } => explain_field::part(out, at, b"Read data=", src, data),
-        AttRsp::ReadBlob { data } => explain_field::part(out, at, b"ReadBlob data=", src, data),
-        AttRsp::Write => text_print::text(out, at, b"Write"),
+        AttRsp::Read { data } => explain_field::part(line, b"Read data=", src, data),
+        AttRsp::ReadBlob { data } => explain_field::part(line, b"ReadBlob data=", src, data),
+        AttRsp::Write => line.text(b"Write"),
     }
 }
 
-fn unsolicited(u: AttUns, src: &[u8], out: &mut [u8], at: usize) -> usize
-    ensures value { result ≡ behind (unsolicited_texts u src.now) at out.old }
-    ensures out_after { out.new ≡ holding (unsolicited_texts u src.now) at out.old }
+fn unsolicited(u: AttUns, src: &[u8], line: &mut Line<'_>)
+    ensures { Puts (unsolicited_texts u src.now) line.old line.new }
 {
     match u {
-        AttUns::Notify { handle, data } => explain_field::value(
-            out,
-            at,
-            b"Notify handle=",
-            handle,
-            src,
-            data,
-        ),
-        AttUns::Indicate { handle, data } => explain_field::value(
-            out,
-            at,
-            b"Indicate handle=",
-            handle,
-            src,
-            data,
-        ),
+        AttUns::Notify { handle, data } => {
+            explain_field::value(line, b"Notify handle=", handle, src, data);
+        }
+        AttUns::Indicate { handle, data } => {
+            explain_field::value(line, b"Indicate handle=", handle, src, data);
+        }
     }
 }
 
 // What a server sends: the packet's name and its fields.
-pub fn server(s: AttServer, att: Att, src: &[u8], out: &mut [u8]) -> usize
-    ensures value { result ≡ behind (server_texts s att src.now) 0 out.old }
-    ensures out_after { out.new ≡ holding (server_texts s att src.now) 0 out.old }
+pub fn server(s: AttServer, att: Att, src: &[u8], line: &mut Line<'_>)
+    ensures { Puts (server_texts s att src.now) line.old line.new }
 {
     match s {
         AttServer::Response(r) => {
-            let at = text_print::text(out, 0, b"server response ");
-            response(r, att, src, out, at)
+            line.text(b"server response ");
+            response(r, att, src, line);
         }
         AttServer::Unsolicited(u) => {
-            let at = text_print::text(out, 0, b"server unsolicited ");
-            unsolicited(u, src, out, at)
+            line.text(b"server unsolicited ");
+            unsolicited(u, src, line);
         }
     }
 }

@@ -43,6 +43,11 @@ pub puts_then : (xs ys : List (List ℕ)) (a b c : Line) → Puts xs a b → Put
 puts_then xs ys a b c p q =
     let j = joined xs ys a.pos a.out.now b.pos b.out.now c.pos c.out.now (p.1, p.2) (q.1, q.2) in (q.0 ∙ p.0, j.0, j.1)
 
+-- no texts at all
+pub puts_none : (ts : List (List ℕ)) (a : Line) → ts ≡ [] → Puts ts a a
+unfolding behind holding
+puts_none ts a e = rw e (refl, refl, refl)
+
 -- the same texts, said otherwise
 pub as_texts : (xs ys : List (List ℕ)) (pos : ℕ) (out : List ℕ) (r : ℕ) (w : List ℕ) → xs ≡ ys → Wrote ys pos out r w → Wrote xs pos out r w
 as_texts xs ys pos out r w e p = rw e p

@@ -1,13 +1,14 @@
--- The texts of the item that is there.
-use Rattle.text_put.specs.PutLaws.{joined}
+-- The texts of the item that is there; none at the end.
+use Rattle.text_put.specs.PutLaws.{puts_then, puts_none}
 use Rattle.explain_items.specs.Items.{informations, step_in}
-use Rattle.explain_items.specs.ItemsLaws.{information_item}
+use Rattle.explain_items.specs.ItemsLaws.{information_item, information_end}
 use Rattle.explain_items.proofs.information.Goals as goal
 
-pub returns : goal.returns
-returns c =
-    let a = c.args in
-    let p =
-    information_item (step_in informations a.att a.src.now a.pos) a.src.now a.at a.out.now _ _ _ c.in_ok-handle.ensures
-    (joined _ _ _ _ _ _ _ _ (c.word-at.ensures.value, c.word-at.ensures.out_after) (c.kind-at.ensures.value, c.kind-at.ensures.out_after)) in
-    record { value = p.0; out_after = p.1 }
+pub returns-in_err-handle-clause-line_after : goal.returns-in_err-handle-clause-line_after
+returns-in_err-handle-clause-line_after c =
+    puts_none _ c.args.line.now (information_end informations.texts (step_in informations c.args.att c.args.src.now c.args.pos) c.args.src.now c.in_err-handle.ensures)
+
+pub returns-clause-line_after : goal.returns-clause-line_after
+returns-clause-line_after c =
+    let i = information_item (step_in informations c.args.att c.args.src.now c.args.pos) c.args.src.now c.in_ok-handle.field-0 c.in_ok-handle.ensures in
+    rw i.0 (puts_then _ _ c.args.line.now c.word.new.line c.kind.new.line c.word.ensures c.kind.ensures)
