@@ -3,6 +3,4 @@ use Rattle.till_show.specs.ShowLaws.{place_as}
 use Rattle.till_show.proofs.place_text.Goals as goal
 
 pub returns-in-Fixed : goal.returns-in-Fixed
-returns-in-Fixed c =
-    let p = place_as _ _ _ _ _ _ c.in-Fixed.is (c.count.ensures.value, c.count.ensures.out_after) in
-    record { value = p.0; out_after = p.1 }
+returns-in-Fixed c = place_as _ _ c.args.line.now c.count.new.line c.in-Fixed.is c.count.ensures

@@ -1,14 +1,13 @@
 -- The texts of a record, one behind the other.
-use Rattle.text_put.specs.PutLaws.{joined}
+use Rattle.text_print.specs.declared.Line.{Line}
+use Rattle.text_put.specs.PutLaws.{puts_then}
 use Rattle.till_show.proofs.record_line.Goals as goal
 
 pub returns : goal.returns
 returns c =
-    let h = c.head-at.ensures in
-    let m = c.record_marks-at.ensures in
-    let p = c.place_text-at.ensures in
-    let v = c.hex.ensures in
-    let q =
-    joined _ _ _ _ _ _ _ _ (h.value, h.out_after)
-    (joined _ _ _ _ _ _ _ _ (m.value, m.out_after) (joined _ _ _ _ _ _ _ _ (p.value, p.out_after) (v.value, v.out_after))) in
-    record { value = q.0; out_after = q.1 }
+    let a : Line = c.args.line.now in
+    let d : Line = c.head.new.line in
+    let e : Line = c.record_marks.new.line in
+    let f : Line = c.place_text.new.line in
+    let g : Line = c.hex.new.line in
+    puts_then _ _ a d g c.head.ensures (puts_then _ _ d e g c.record_marks.ensures (puts_then _ _ e f g c.place_text.ensures c.hex.ensures))
