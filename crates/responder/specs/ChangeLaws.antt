@@ -1,11 +1,13 @@
 -- What a packet asks for of a sound table is carried out as the book has it, and of any other it asks for nothing: so the responder
 -- hands back what the book's responder gives.
-use Rattle.std.specs.Prelude.{ℕ, Bool, true, false, ◌≡◌, refl, List, length}
+use Rattle.std.specs.Prelude.{ℕ, Bool, true, false, ◌≡◌, refl, List, length, Result, Ok, Err}
+use Rattle.std.specs.Result.{result_unwrap_or}
 use Rattle.std.proofs.Common.{sym, ◌∙◌, subst}
 use Rattle.std.proofs.Math.Path.{ap}
 use Rattle.attributes.proofs.StoreLaws.{own_store_lem}
 use Rattle.attributes.specs.Stores.{stored, stored_live}
-use Rattle.attributes.specs.declared.Changed.{Changed}
+use Rattle.attributes.specs.Additions.{table_after}
+use Rattle.codec.specs.declared.Refusal.{Refusal}
 use Rattle.attributes.specs.declared.Table.{Table}
 use Rattle.answers.specs.Contract.{state_of, answer_of, out_after, served_as}
 use Rattle.answers.specs.Replies.{Effect, Nothing, Stores, Agrees}
@@ -59,12 +61,18 @@ pub change_as : (a : Answer) (s : State) (src : List ℕ) (r : Served) (w : List
 change_as a s src r w e f q h =
     subst (λ (x : Pending). (r ≡ served_by a (carried_out s (meant_by src x))) × (w ≡ (carried_out s (meant_by src x)).live)) (sym q) h
 
-pub stores_as : (a : Answer) (t : Table) (l : Link) (h : ℕ) (v fixed live n : List ℕ) (c : Changed) (w : List ℕ)
-    → (c ≡ stored t h n fixed live) × (w ≡ stored_live t h n fixed live) → n ≡ v
-    → (◌≡◌ {A = Served} (record { answer = a; table = c.table; link = l }) (served_by a (carried_out (state_of t l fixed live) (Stores h v))))
+-- a refusal leaves the table that a caller has
+after_is : (t : Table) (x : Result Table Refusal) → result_unwrap_or x t ≡ table_after t x
+after_is t (Ok n) = refl
+after_is t (Err why) = refl
+
+pub stores_as : (a : Answer) (t u : Table) (l : Link) (h : ℕ) (v fixed live n : List ℕ) (x : Result Table Refusal) (w : List ℕ)
+    → (x ≡ stored t h n fixed live) × (w ≡ stored_live t h n fixed live) → u ≡ result_unwrap_or x t → n ≡ v
+    → (◌≡◌ {A = Served} (record { answer = a; table = u; link = l }) (served_by a (carried_out (state_of t l fixed live) (Stores h v))))
     × (w ≡ (carried_out (state_of t l fixed live) (Stores h v)).live)
 unfolding own_store
-stores_as a t l h v fixed live n c w q e = (
-  ap (λ (x : Changed). served_by a (state_of x.table l fixed live)) q.0 ∙ ap (λ (m : List ℕ). served_by a (state_of (stored t h m fixed live).table l fixed live)) e,
+stores_as a t u l h v fixed live n x w q k e = (
+  ap (λ (y : Table). served_by a (state_of y l fixed live)) (k ∙ after_is t x ∙ ap (table_after t) q.0)
+      ∙ ap (λ (m : List ℕ). served_by a (state_of (table_after t (stored t h m fixed live)) l fixed live)) e,
   q.1 ∙ ap (λ (m : List ℕ). stored_live t h m fixed live) e,
 )

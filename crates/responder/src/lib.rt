@@ -7,9 +7,10 @@ ghost use Rattle.answers.specs.Contract.{state_of, turn_of, out_after, served_as
 ghost use Rattle.serve_change.specs.Changes.{meant_by};
 ghost use Rattle.responder.specs.Change.{carried_out, served_by};
 
-use answers::{Answer, Link, Served};
+use answers::{Lent, Link, Served};
 use attributes::Table;
 use serve_change::Pending;
+use serve_packet::Replied;
 
 // One packet into the output. The refusals 11, 12, 1 and 2, in this order, change nothing; an answer
 // stands at the start of the output, and the bytes behind it stay.
@@ -29,16 +30,20 @@ pub fn serve(
         ≡ out_after (turn_of table link fixed.now live.old packet.now (length out.old)).heard
         out.old }
 {
-    let said = serve_packet::speak(table, link, fixed, live, packet, out);
-    let answer = said.answer;
-    let effect = said.effect;
-    change(answer, effect, table, link, fixed, live, packet)
+    let lent = Lent {
+        table: &table,
+        link,
+        fixed,
+        live,
+    };
+    let said = serve_packet::speak(lent, packet, out);
+    change(said, table, link, fixed, live, packet)
 }
 
-// What a packet asks for takes place: a store, the end of an exchange, or nothing.
+// What a packet asks for takes place: a store, the end of an exchange, or nothing. A refused store leaves
+// the table as it was.
 fn change(
-    answer: Answer,
-    effect: Pending,
+    said: Replied,
     table: Table,
     link: Link,
     fixed: &[u8],
@@ -46,11 +51,12 @@ fn change(
     packet: &[u8],
 ) -> Served
     ensures value { result
-        ≡ served_by answer (carried_out (state_of table link fixed.now live.old) (meant_by packet.now effect)) }
+        ≡ served_by said.answer (carried_out (state_of table link fixed.now live.old) (meant_by packet.now said.effect)) }
     ensures live_after { live.new
-        ≡ (carried_out (state_of table link fixed.now live.old) (meant_by packet.now effect)).live }
+        ≡ (carried_out (state_of table link fixed.now live.old) (meant_by packet.now said.effect)).live }
 {
-    match effect {
+    let answer = said.answer;
+    match said.effect {
         Pending::Nothing => Served {
             answer,
             table,
@@ -69,11 +75,8 @@ fn change(
             }
         }
         Pending::Stores { handle, data } => {
-            let at = data.at;
-            let len = data.len;
-            let value = table_records::part(packet, at, len);
-            let stored = table::store(table, handle, value, fixed, live);
-            let next = stored.table;
+            let value = table_records::part(packet, data.at, data.len);
+            let next = table::store(table, handle, value, fixed, live).unwrap_or(table);
             Served {
                 answer,
                 table: next,

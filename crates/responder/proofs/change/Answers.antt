@@ -6,7 +6,7 @@ use Rattle.responder.proofs.change.Goals as goal
 pub returns-in-Stores : goal.returns-in-Stores
 returns-in-Stores c =
     let a = c.args in
-    let e = c.store-stored.ensures in
-    let s = change_as a.answer (state_of a.table a.link a.fixed.now a.live.now) a.packet.now _ _ a.effect _ c.in-Stores.is
-    (stores_as a.answer a.table a.link _ _ a.fixed.now a.live.now _ _ _ (e.value, e.live_after) c.part-value.ensures) in
+    let e = c.store.ensures in
+    let s = change_as a.said.answer (state_of a.table a.link a.fixed.now a.live.now) a.packet.now _ _ a.said.effect _ c.in-Stores.is
+    (stores_as a.said.answer a.table _ a.link _ _ a.fixed.now a.live.now _ _ _ (e.value, e.live_after) c.unwrap_or-next.ensures c.part-value.ensures) in
     record { value = s.0; live_after = s.1 }
