@@ -1,11 +1,6 @@
 -- Fixed fields and their bytes, once over the list of widths: written and read again they are the same numbers, read and written
 -- again the same bytes. By induction over the widths, each field by the laws of bytes and numbers.
-use Prim.Native.Nat.{ℕ, ◌+◌, ◌-◌, ◌≤◌}
-use mathlib.Core.Path.{◌≡◌, refl, sym, ap, ◌∙◌}
-use mathlib.Core.List.{List, [], ◌∷◌, ◌++◌, append_assoc, append-nil}
-use native.Mathlib.Omega.{arith}
-use lib.ListN.{length, take, drop, length-append, length-drop}
-use lib.Seq.{take_at, drop_at, take-add, drop-drop, length-take-le}
+use Rattle.std.proofs.Common.{ℕ, ◌+◌, ◌≤◌, ◌≡◌, refl, sym, ap, ◌∙◌, List, [], ◌∷◌, ◌++◌, append_assoc, arith, length, take, drop, length-append, length-drop, take_at, drop_at, take-add, drop-drop, length-take-le}
 use Rattle.primitives.specs.Numbers.{bytes_of, number_of, number_at, Octets}
 use Rattle.primitives.specs.NumbersLaws.{length_bytes, number_bytes, bytes_number, octets_take, octets_drop}
 use Rattle.att.specs.Wire.{total, numbers, sent_fields}

@@ -1,13 +1,7 @@
 -- NO SHIFT: one half of the auditor's sentence. The items of a packet are exactly the consecutive stretches of the item length from
 -- the first byte behind the fixed fields on: item k starts at k times the length, joined they are the data without its incomplete
 -- end, and the items of an encoded list are that list. By induction over the number of stretches.
-use Prim.Native.Nat.{ℕ, zero, suc, ◌+◌, ◌*◌, ◌-◌, ◌/◌, ◌%◌, ◌≤◌, ◌<◌}
-use mathlib.Core.Path.{◌≡◌, refl, sym, ap, ◌∙◌}
-use mathlib.Core.List.{List, [], ◌∷◌, ◌++◌}
-use native.Mathlib.Nat.{zero-mul, suc-mul, div-add-mod', mul-div_cancel, div-mul-le_self}
-use native.Mathlib.Omega.{arith}
-use lib.ListN.{length, take, drop, get_or, length-append, length-drop}
-use lib.Seq.{take-add, drop-drop, take_at, drop_at}
+use Rattle.std.proofs.Common.{ℕ, zero, suc, ◌+◌, ◌*◌, ◌/◌, ◌<◌, ◌≡◌, refl, ◌∙◌, List, [], ◌∷◌, zero-mul, suc-mul, div-add-mod', mul-div_cancel, arith, length, take, drop, get_or, length-append, take-add, drop-drop, take_at, drop_at}
 use Rattle.att.specs.Wire.{whole}
 use Rattle.att.specs.Items.{stretches, items, joined}
 

@@ -1,26 +1,17 @@
 -- The round trip's premise holds of every packet that decoding gives and of every packet that the code's types can hold: case by case,
 -- and for what is decoded by induction over the fields. And the typed case: what a packet means, with its range, tells the packet.
-use Prim.Native.Nat.{ℕ, ◌+◌, ◌≤◌, ◌<◌}
-use mathlib.Core.Bool.{Bool, true, false}
-use mathlib.Core.Path.{◌≡◌, refl, sym, ap, subst, ◌∙◌}
-use mathlib.Core.List.{List, [], ◌∷◌}
-use native.Mathlib.Omega.{arith}
-use lib.ListN.{length, take, drop, length-drop}
-use lib.Seq.{length-take-le}
-use borrow.Author.Tests.{leb-true}
-use Rattle.std.specs.Prelude.{Ok}
+use Rattle.std.proofs.Common.{ℕ, ◌+◌, ◌≤◌, ◌<◌, Bool, true, false, ◌≡◌, refl, sym, ap, subst, ◌∙◌, List, [], ◌∷◌, arith, length, take, drop, length-drop, length-take-le, leb-true, Ok}
 use Rattle.codec.specs.Cases.{pick}
 use Rattle.codec.specs.CasesLaws.{impossible, both}
 use Rattle.primitives.specs.Numbers.{limit, number_at, Octets}
 use Rattle.primitives.specs.NumbersLaws.{number_limit, octets_take, octets_drop}
 use Rattle.ble_uuid.specs.Uuids.{on_air}
 use Rattle.ble_uuid.specs.declared.Uuid.{Uuid}
-use Rattle.att.specs.Wire.{Tail, AUuid, rows, shape_of, total, numbers, tail_decodes, decodes, Meaning, shape_means, Read, Means, NotRead, read, strict, Coded, Sent, resent}
-use Rattle.att.specs.Typed.{builds, build_of, Shown, Build, show_req, show_cfm, show_client, show_rsp, show_uns, show_server, show_att, part_of, tail_of, means_shown, meaning_of, Parsed, decoded, read_of}
-use Rattle.att.specs.Proper.{Fields, Proper, HeldReq, HeldRsp, HeldUns, HeldClient, HeldServer, Held}
+use Rattle.att.specs.Wire.{Tail, AUuid, rows, shape_of, total, numbers, tail_decodes, decodes, Meaning, shape_means, Means, NotRead, read, strict, Sent, resent}
+use Rattle.att.specs.Typed.{builds, build_of, Shown, show_req, show_cfm, show_client, show_rsp, show_server, show_att, part_of, tail_of, means_shown, meaning_of, Parsed, decoded, read_of}
+use Rattle.att.specs.Proper.{Fields, Proper, HeldReq, HeldRsp, HeldClient, HeldServer, Held}
 use Rattle.att.proofs.RoundTrip.{strict_round_trip}
 use Rattle.att.proofs.TypedMeans.{decoded_means}
-use Rattle.att.specs.declared.Span.{Span}
 use Rattle.att.specs.declared.AttReq.{AttReq}
 use Rattle.att.specs.declared.AttReq.TheVariants as req
 use Rattle.att.specs.declared.AttCfm.{AttCfm}
@@ -30,7 +21,6 @@ use Rattle.att.specs.declared.AttClient.TheVariants.{Request, Command, Confirmat
 use Rattle.att.specs.declared.FindInformationUuidFormat.TheVariants as format
 use Rattle.att.specs.declared.AttRsp.{AttRsp}
 use Rattle.att.specs.declared.AttRsp.TheVariants as rsp
-use Rattle.att.specs.declared.AttUns.{AttUns}
 use Rattle.att.specs.declared.AttUns.TheVariants as uns
 use Rattle.att.specs.declared.AttServer.{AttServer}
 use Rattle.att.specs.declared.AttServer.TheVariants.{Response, Unsolicited}

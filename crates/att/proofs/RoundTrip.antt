@@ -1,17 +1,10 @@
 -- The round trips. Each is proved once over the shape of a row: what its fields and its tail do alone decides, whatever the opcode.
-use Prim.Native.Nat.{ℕ, ◌+◌, ◌-◌, ◌%◌, ◌≤◌}
-use mathlib.Core.Bool.{Bool, true, false, ◌&&◌}
-use mathlib.Core.Path.{◌≡◌, refl, sym, ap, ◌∙◌}
-use mathlib.Core.List.{List, [], ◌∷◌, ◌++◌, append-nil}
-use native.Mathlib.Omega.{arith}
-use lib.Dec.{leb, eqb}
-use lib.ListN.{length, take, drop, length-append, take-append-drop}
-use lib.Seq.{take-length, drop_at}
-use borrow.Author.Tests.{le-leb, leb-true, eqb-true}
+use Rattle.std.proofs.Common.{ℕ, ◌%◌, Bool, true, false, ◌&&◌, ◌≡◌, refl, List, [], ◌∷◌, ◌++◌, arith, leb, eqb, length, drop, length-append, take-append-drop, drop_at, le-leb, leb-true, eqb-true}
+use Rattle.std.proofs.Math.Seq.{take-length}
 use Rattle.codec.specs.Cases.{pick, lookup}
 use Rattle.codec.specs.CasesLaws.{both, join}
 use Rattle.primitives.specs.Numbers.{Octets}
-use Rattle.att.specs.Wire.{Tail, Ends, Rest, Handles, AUuid, Items, NoPacket, Shape, shape, rows, shape_of, total, numbers, tail_decodes, shape_decodes, decodes, tail_strict, shape_strict, strict, Meaning, meaning, kept_tail, shape_means, Read, Means, NotRead, read, whole, sent_tail, sent_fields, Coded, Sent, NotSent, shape_sends, send, resent, trimmed}
+use Rattle.att.specs.Wire.{Tail, Ends, Rest, Handles, AUuid, Items, NoPacket, Shape, shape, rows, shape_of, total, numbers, tail_decodes, shape_decodes, decodes, tail_strict, shape_strict, strict, Meaning, meaning, kept_tail, shape_means, Means, NotRead, read, whole, sent_tail, sent_fields, Sent, NotSent, shape_sends, send, resent, trimmed}
 use Rattle.att.specs.Proper.{Fields, Proper}
 use Rattle.att.proofs.FieldBytes.{length_sent, numbers_sent, sent_numbers}
 

@@ -1,23 +1,13 @@
 -- What the typed packet of some bytes means is what the wire reads in them. The two tables, of rows and of typed packets, are gone
 -- through side by side: at each opcode the typed packet shows that opcode, the row's numbers and its range.
-use Prim.Native.Nat.{ℕ, ◌+◌, ◌-◌, ◌^◌, ◌≤◌, ◌<◌}
-use mathlib.Core.Bool.{Bool, true, false, ◌&&◌, ◌||◌}
-use mathlib.Core.Path.{◌≡◌, refl, sym, ap, ◌∙◌}
-use mathlib.Core.List.{List, [], ◌∷◌}
-use native.Mathlib.Numerals.{add-one}
-use native.Mathlib.Omega.{arith}
-use lib.Dec.{leb, eqb}
-use lib.ListN.{length, take, drop, length-drop}
-use lib.Seq.{take_all}
-use borrow.Author.Tests.{eqb-true, leb-true, le-leb, lt-ltb}
-use Rattle.std.specs.Prelude.{Ok, Err}
+use Rattle.std.proofs.Common.{ℕ, ◌+◌, ◌-◌, ◌^◌, ◌≤◌, ◌<◌, Bool, true, false, ◌||◌, ◌≡◌, refl, sym, ap, ◌∙◌, List, [], ◌∷◌, add-one, arith, leb, eqb, length, drop, length-drop, take_all, eqb-true, leb-true, le-leb, lt-ltb, Ok, Err, rules}
 use Rattle.codec.specs.Cases.{pick, lookup}
 use Rattle.codec.specs.CasesLaws.{impossible, both, join}
 use Rattle.primitives.specs.Numbers.{number_at, Octets}
 use Rattle.ble_uuid.specs.Uuids.{on_air, no_uuid, sliced, uuid_of}
 use Rattle.ble_uuid.specs.declared.Uuid.{Uuid}
-use Rattle.att.specs.Wire.{Tail, Ends, Rest, Handles, AUuid, Items, by_format, NoPacket, Shape, shape, rows, shape_of, total, numbers, uuid_length, tail_decodes, shape_decodes, decodes, Meaning, meaning, kept_tail, shape_means, Read, Means, NotRead, read, strict, Coded, Sent, NotSent, send, resent}
-use Rattle.att.specs.Typed.{Build, builds, build_of, refused_build, behind, uuid_in, shape_builds, refusal, row_decoded, Parsed, decoded, Shown, shown, shown_all, span, show_att, part_of, part_ok, tail_of, means_shown, countable, encoded_shown, encoded, encoded_again, read_of}
+use Rattle.att.specs.Wire.{Tail, Ends, Rest, Handles, AUuid, Items, by_format, NoPacket, Shape, shape, rows, shape_of, total, numbers, uuid_length, tail_decodes, shape_decodes, decodes, meaning, kept_tail, shape_means, Means, NotRead, read, strict, Sent, send, resent}
+use Rattle.att.specs.Typed.{Build, builds, build_of, refused_build, behind, uuid_in, shape_builds, refusal, row_decoded, Parsed, decoded, shown, shown_all, span, show_att, part_of, part_ok, tail_of, means_shown, countable, encoded_shown, encoded_again, read_of}
 use Rattle.att.proofs.RoundTrip.{strict_decodes, strict_round_trip}
 use Rattle.att.specs.Formats.{format_number, format_of}
 use Rattle.att.specs.declared.FindInformationUuidFormat.TheVariants.{Uuid16, Uuid128}
@@ -72,151 +62,7 @@ shows_format p d h =
 
 agree : Agree rows builds
 unfolding rows builds
-agree = (
-  refl,
-  (
-    λ p u d h. refl,
-    (
-      refl,
-      (
-        λ p u d h. refl,
-        (
-          refl,
-          (
-            λ p u d h. refl,
-            (
-              refl,
-              (
-                λ p u d h. refl,
-                (
-                  refl,
-                  (
-                    λ p u d h. shows_format p d h,
-                    (
-                      refl,
-                      (
-                        λ p u d h. refl,
-                        (
-                          refl,
-                          (
-                            λ p u d h. refl,
-                            (
-                              refl,
-                              (
-                                λ p u d h. refl,
-                                (
-                                  refl,
-                                  (
-                                    λ p u d h. refl,
-                                    (
-                                      refl,
-                                      (
-                                        λ p u d h. refl,
-                                        (
-                                          refl,
-                                          (
-                                            λ p u d h. refl,
-                                            (
-                                              refl,
-                                              (
-                                                λ p u d h. refl,
-                                                (
-                                                  refl,
-                                                  (
-                                                    λ p u d h. refl,
-                                                    (
-                                                      refl,
-                                                      (
-                                                        λ p u d h. refl,
-                                                        (
-                                                          refl,
-                                                          (
-                                                            λ p u d h. refl,
-                                                            (
-                                                              refl,
-                                                              (
-                                                                λ p u d h. refl,
-                                                                (
-                                                                  refl,
-                                                                  (
-                                                                    λ p u d h. refl,
-                                                                    (
-                                                                      refl,
-                                                                      (
-                                                                        λ p u d h. refl,
-                                                                        (
-                                                                          refl,
-                                                                          (
-                                                                            λ p u d h. refl,
-                                                                            (
-                                                                              refl,
-                                                                              (
-                                                                                λ p u d h. refl,
-                                                                                (
-                                                                                  refl,
-                                                                                  (
-                                                                                    λ p u d h. refl,
-                                                                                    (
-                                                                                      refl,
-                                                                                      (
-                                                                                        λ p u d h. refl,
-                                                                                        (
-                                                                                          refl,
-                                                                                          (
-                                                                                            λ p u d h. refl,
-                                                                                            (
-                                                                                              refl,
-                                                                                              (
-                                                                                                λ p u d h. refl,
-                                                                                                tt,
-                                                                                              ),
-                                                                                            ),
-                                                                                          ),
-                                                                                        ),
-                                                                                      ),
-                                                                                    ),
-                                                                                  ),
-                                                                                ),
-                                                                              ),
-                                                                            ),
-                                                                          ),
-                                                                        ),
-                                                                      ),
-                                                                    ),
-                                                                  ),
-                                                                ),
-                                                              ),
-                                                            ),
-                                                          ),
-                                                        ),
-                                                      ),
-                                                    ),
-                                                  ),
-                                                ),
-                                              ),
-                                            ),
-                                          ),
-                                        ),
-                                      ),
-                                    ),
-                                  ),
-                                ),
-                              ),
-                            ),
-                          ),
-                        ),
-                      ),
-                    ),
-                  ),
-                ),
-              ),
-            ),
-          ),
-        ),
-      ),
-    ),
-  ),
-)
+agree = search (rules, shows_format)
 
 -- an opcode that decodes has a row, and the typed packet of that row
 agree_at : (op : ℕ) (rs : List (ℕ × Shape)) (bs : List (ℕ × Build)) → Agree rs bs

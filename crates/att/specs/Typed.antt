@@ -1,6 +1,6 @@
 -- The typed packets of the code (document 01, "Packets" and "Shapes that cannot be kept"): which of them each row decodes to, and
 -- what each of them means. A data field is an index range; what the packet means has the bytes in its place.
-use Rattle.std.specs.Prelude.{ℕ, ◌+◌, ◌-◌, ◌^◌, Bool, true, false, ◌&&◌, List, [], ◌∷◌, length, take, drop, get_or, leb, ltb, Result, Ok, Err, Option, Some, None}
+use Rattle.std.specs.Prelude.{ℕ, ◌+◌, ◌-◌, ◌^◌, Bool, ◌&&◌, List, [], ◌∷◌, length, take, drop, get_or, leb, ltb, Result, Ok, Err, Option, Some, None}
 use Rattle.codec.specs.Buffer.{laid, written}
 use Rattle.codec.specs.Cases.{pick, lookup}
 use Rattle.codec.specs.declared.Error.{Error}
@@ -13,7 +13,6 @@ use Rattle.att.specs.Wire.{Tail, Ends, Rest, Handles, AUuid, Items, NoPacket, Sh
 use Rattle.att.specs.declared.Span.{Span}
 use Rattle.att.specs.declared.AttReq.{AttReq}
 use Rattle.att.specs.declared.AttReq.TheVariants as req
-use Rattle.att.specs.declared.AttCmd.{AttCmd}
 use Rattle.att.specs.declared.AttCfm.{AttCfm}
 use Rattle.att.specs.declared.AttCfm.TheVariants as cfm
 use Rattle.att.specs.declared.AttClient.{AttClient}

@@ -8,12 +8,16 @@
 ghost use Rattle.std.specs.Prelude.{◌≡◌, option_copied};
 ghost use Rattle.att.specs.Formats.{format_in, format_number, pair_length};
 ghost use Rattle.att.specs.Typed.{part_in};
+ghost use Rattle.att.specs.declared.Att.TheVariants.{Client, Server};
+ghost use Rattle.att.specs.declared.AttClient.TheVariants.{Request, Command, Confirmation};
+ghost use Rattle.att.specs.declared.AttServer.TheVariants.{Response, Unsolicited};
 
 use att_error::AttErrorCode;
 use ble_uuid::Uuid;
 use codec::Error;
 
-// The opcodes, by the names of att.rs. Opcode 20 is the Read Multiple Variable Request of the Core Specification (3.4.4.11).
+// The opcodes, by the names of att.rs. Kept: numbers and no enum, since a byte of any value comes in and a
+// packet is decided by a match on it. Opcode 20 is the Read Multiple Variable Request of the Core Specification (3.4.4.11).
 pub const ATT_READ_BY_GROUP_TYPE_REQ: u8 = 0x10;
 
 pub const ATT_READ_BY_GROUP_TYPE_RSP: u8 = 0x11;
@@ -254,4 +258,44 @@ pub enum AttServer {
 pub enum Att {
     Client(AttClient),
     Server(AttServer),
+}
+
+impl From<AttReq> for Att {
+    ghost from_gives = { λ r att. att ≡ Client (Request r) };
+
+    fn from(req: AttReq) -> Att {
+        Att::Client(AttClient::Request(req))
+    }
+}
+
+impl From<AttCmd> for Att {
+    ghost from_gives = { λ c att. att ≡ Client (Command c) };
+
+    fn from(cmd: AttCmd) -> Att {
+        Att::Client(AttClient::Command(cmd))
+    }
+}
+
+impl From<AttCfm> for Att {
+    ghost from_gives = { λ c att. att ≡ Client (Confirmation c) };
+
+    fn from(cfm: AttCfm) -> Att {
+        Att::Client(AttClient::Confirmation(cfm))
+    }
+}
+
+impl From<AttRsp> for Att {
+    ghost from_gives = { λ r att. att ≡ Server (Response r) };
+
+    fn from(rsp: AttRsp) -> Att {
+        Att::Server(AttServer::Response(rsp))
+    }
+}
+
+impl From<AttUns> for Att {
+    ghost from_gives = { λ u att. att ≡ Server (Unsolicited u) };
+
+    fn from(uns: AttUns) -> Att {
+        Att::Server(AttServer::Unsolicited(uns))
+    }
 }

@@ -12,8 +12,6 @@ ghost use Rattle.ble_uuid.specs.Uuids.{uuid_of};
 ghost use Rattle.att.specs.Typed.{request, response, row_decoded, decoded, uuid_in};
 ghost use Rattle.primitives.specs.Numbers.{number_at};
 ghost use Rattle.att.specs.declared.AttReq.TheVariants as req;
-ghost use Rattle.att.specs.declared.AttServer.TheVariants.{Unsolicited};
-ghost use Rattle.att.specs.declared.Att.TheVariants.{Server};
 ghost use Rattle.att_decode.specs.Tests.{answered, carried, field, field_length};
 
 use att::{
@@ -22,8 +20,8 @@ use att::{
     ATT_FIND_INFORMATION_RSP, ATT_HANDLE_VALUE_CFM, ATT_HANDLE_VALUE_IND, ATT_HANDLE_VALUE_NTF,
     ATT_PREPARE_WRITE_REQ, ATT_READ_BLOB_REQ, ATT_READ_BLOB_RSP, ATT_READ_BY_GROUP_TYPE_REQ,
     ATT_READ_BY_GROUP_TYPE_RSP, ATT_READ_BY_TYPE_REQ, ATT_READ_BY_TYPE_RSP, ATT_READ_MULTIPLE_REQ,
-    ATT_READ_REQ, ATT_READ_RSP, ATT_WRITE_CMD, ATT_WRITE_REQ, ATT_WRITE_RSP, Att, AttCfm,
-    AttClient, AttReq, AttRsp, AttServer, AttUns, Span,
+    ATT_READ_REQ, ATT_READ_RSP, ATT_WRITE_CMD, ATT_WRITE_REQ, ATT_WRITE_RSP, Att, AttCfm, AttReq,
+    AttRsp, Span,
 };
 use att_rows::{
     error_rsp, exchange_mtu_req, exchange_mtu_rsp, execute_write_req, field,
@@ -72,52 +70,50 @@ fn dispatch(op: u8, p: &[u8]) -> Result<Att, Error>
     ensures { result ≡ row_decoded op p.now }
 {
     match op {
-        ATT_ERROR_RSP => response_of(p, 4, error_rsp(p)),
-        ATT_EXCHANGE_MTU_REQ => request_of(p, 2, exchange_mtu_req(p)),
-        ATT_EXCHANGE_MTU_RSP => response_of(p, 2, exchange_mtu_rsp(p)),
-        ATT_FIND_INFORMATION_REQ => request_of(p, 4, find_information_req(p)),
-        ATT_FIND_INFORMATION_RSP => response_of(p, 1, find_information_rsp(p, remaining(1, p))?),
+        ATT_ERROR_RSP => packet(p, 4, Att::from(error_rsp(p))),
+        ATT_EXCHANGE_MTU_REQ => packet(p, 2, Att::from(exchange_mtu_req(p))),
+        ATT_EXCHANGE_MTU_RSP => packet(p, 2, Att::from(exchange_mtu_rsp(p))),
+        ATT_FIND_INFORMATION_REQ => packet(p, 4, Att::from(find_information_req(p))),
+        ATT_FIND_INFORMATION_RSP => {
+            let rsp = find_information_rsp(p, remaining(1, p))?;
+            packet(p, 1, Att::from(rsp))
+        }
         ATT_FIND_BY_TYPE_VALUE_REQ => {
-            request_of(p, 6, find_by_type_value_req(p, remaining(6, p)))
+            let req = find_by_type_value_req(p, remaining(6, p));
+            packet(p, 6, Att::from(req))
         }
         ATT_FIND_BY_TYPE_VALUE_RSP => {
-            response_of(p, 0, AttRsp::FindByTypeValue { items: field(1, p) })
+            let rsp = AttRsp::FindByTypeValue { items: field(1, p) };
+            packet(p, 0, Att::from(rsp))
         }
-        ATT_READ_BY_TYPE_REQ => request_of(p, 4, read_by_type_req(p, uuid_of(p)?)),
+        ATT_READ_BY_TYPE_REQ => {
+            let req = read_by_type_req(p, uuid_of(p)?);
+            packet(p, 4, Att::from(req))
+        }
         ATT_READ_BY_TYPE_RSP => items_of(p, read_by_type_rsp(p, remaining(1, p))),
-        ATT_READ_REQ => request_of(p, 2, read_req(p)),
-        ATT_READ_RSP => response_of(p, 0, AttRsp::Read { data: field(1, p) }),
+        ATT_READ_REQ => packet(p, 2, Att::from(read_req(p))),
+        ATT_READ_RSP => packet(p, 0, Att::from(AttRsp::Read { data: field(1, p) })),
         ATT_READ_BLOB_REQ => read_blob_of(p),
-        ATT_READ_BLOB_RSP => response_of(p, 0, AttRsp::ReadBlob { data: field(1, p) }),
-        ATT_READ_BY_GROUP_TYPE_REQ => request_of(p, 4, read_by_group_type_req(p, uuid_of(p)?)),
-        ATT_READ_BY_GROUP_TYPE_RSP => { items_of(p, read_by_group_type_rsp(p, remaining(1, p))) }
-        ATT_WRITE_REQ => request_of(p, 2, write_req(p, remaining(2, p))),
-        ATT_WRITE_RSP => response_of(p, 0, AttRsp::Write),
-        ATT_PREPARE_WRITE_REQ => request_of(p, 4, prepare_write_req(p, remaining(4, p))),
-        ATT_EXECUTE_WRITE_REQ => request_of(p, 1, execute_write_req(p)),
-        ATT_HANDLE_VALUE_NTF => unsolicited_of(p, 2, handle_value_ntf(p, remaining(2, p))),
-        ATT_HANDLE_VALUE_IND => unsolicited_of(p, 2, handle_value_ind(p, remaining(2, p))),
-        ATT_HANDLE_VALUE_CFM => packet(
-            p,
-            0,
-            Att::Client(AttClient::Confirmation(AttCfm::ConfirmIndication)),
-        ),
+        ATT_READ_BLOB_RSP => packet(p, 0, Att::from(AttRsp::ReadBlob { data: field(1, p) })),
+        ATT_READ_BY_GROUP_TYPE_REQ => {
+            let req = read_by_group_type_req(p, uuid_of(p)?);
+            packet(p, 4, Att::from(req))
+        }
+        ATT_READ_BY_GROUP_TYPE_RSP => items_of(p, read_by_group_type_rsp(p, remaining(1, p))),
+        ATT_WRITE_REQ => packet(p, 2, Att::from(write_req(p, remaining(2, p)))),
+        ATT_WRITE_RSP => packet(p, 0, Att::from(AttRsp::Write)),
+        ATT_PREPARE_WRITE_REQ => packet(p, 4, Att::from(prepare_write_req(p, remaining(4, p)))),
+        ATT_EXECUTE_WRITE_REQ => packet(p, 1, Att::from(execute_write_req(p))),
+        ATT_HANDLE_VALUE_NTF => packet(p, 2, Att::from(handle_value_ntf(p, remaining(2, p)))),
+        ATT_HANDLE_VALUE_IND => packet(p, 2, Att::from(handle_value_ind(p, remaining(2, p)))),
+        ATT_HANDLE_VALUE_CFM => packet(p, 0, Att::from(AttCfm::ConfirmIndication)),
         ATT_READ_MULTIPLE_REQ => {
-            request_of(
-                p,
-                0,
-                AttReq::ReadMultiple {
-                    handles: field(1, p),
-                },
-            )
+            let req = AttReq::ReadMultiple {
+                handles: field(1, p),
+            };
+            packet(p, 0, Att::from(req))
         }
-        ATT_WRITE_CMD => {
-            packet(
-                p,
-                2,
-                Att::Client(AttClient::Command(write_cmd(p, remaining(2, p)))),
-            )
-        }
+        ATT_WRITE_CMD => packet(p, 2, Att::from(write_cmd(p, remaining(2, p)))),
         _ => Err(Error::InvalidValue),
     }
 }
@@ -128,25 +124,7 @@ fn read_blob_of(p: &[u8]) -> Result<Att, Error>
 {
     let (handle, next) = cursor_read::field(p, 0)?;
     let (offset, _) = cursor_read::field(p, next)?;
-    request_of(p, 4, AttReq::ReadBlob { handle, offset })
-}
-
-fn request_of(p: &[u8], fixed: usize, req: AttReq) -> Result<Att, Error>
-    ensures { result ≡ answered Rest [] fixed p.now (request req) }
-{
-    packet(p, fixed, Att::Client(AttClient::Request(req)))
-}
-
-fn response_of(p: &[u8], fixed: usize, rsp: AttRsp) -> Result<Att, Error>
-    ensures { result ≡ answered Rest [] fixed p.now (response rsp) }
-{
-    packet(p, fixed, Att::Server(AttServer::Response(rsp)))
-}
-
-fn unsolicited_of(p: &[u8], fixed: usize, uns: AttUns) -> Result<Att, Error>
-    ensures { result ≡ answered Rest [] fixed p.now (Ok (Server (Unsolicited uns))) }
-{
-    packet(p, fixed, Att::Server(AttServer::Unsolicited(uns)))
+    packet(p, 4, Att::from(AttReq::ReadBlob { handle, offset }))
 }
 
 // A packet whose payload has at least its fixed fields.
@@ -166,7 +144,7 @@ fn items_of(p: &[u8], rsp: AttRsp) -> Result<Att, Error>
     if item_len(p) < 2 {
         return Err(Error::InvalidValue);
     }
-    response_of(p, 1, rsp)
+    packet(p, 1, Att::from(rsp))
 }
 
 // 08 and 10: behind start and end a UUID of 2 or 16 bytes.

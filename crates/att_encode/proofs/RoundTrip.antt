@@ -1,11 +1,6 @@
 -- Encoding and then decoding, in the code's types: what the bytes of an encoded packet decode to means the same packet, save that an
 -- incomplete last item is gone. The tests of the encoder take nothing from what is sent; the rest is the book's round trip.
-use Prim.Native.Nat.{ℕ, ◌^◌}
-use mathlib.Core.Path.{◌≡◌, ◌∙◌}
-use mathlib.Core.Bool.{Bool, true, false}
-use mathlib.Core.List.{List}
-use lib.ListN.{length}
-use lib.Dec.{ltb}
+use Rattle.std.proofs.Common.{ℕ, ◌^◌, ◌≡◌, ◌∙◌, Bool, true, false, List, length, ltb}
 use Rattle.codec.specs.Cases.{pick}
 use Rattle.att.specs.Wire.{Coded, Sent, NotSent, Means, send, trimmed}
 use Rattle.att.specs.Proper.{Held}

@@ -1,16 +1,8 @@
 -- NO SHIFT, the code's half: walking from position 0 gives exactly the items of the book, in order, and then the end. By induction over
 -- the length of the walk, each step by what is left behind the position.
-use Prim.Native.Nat.{ℕ, zero, suc, ◌+◌, ◌-◌, ◌/◌, ◌≤◌, ◌<◌}
-use mathlib.Core.Path.{◌≡◌, refl, sym, ap, ◌∙◌}
-use mathlib.Core.Bool.{Bool, true, false, ◌||◌}
-use mathlib.Core.List.{List, [], ◌∷◌}
-use native.Mathlib.Nat.{div-eq_of_lt, div-eq-sub-div}
-use native.Mathlib.Omega.{arith}
-use lib.ListN.{length, take, drop, length-drop}
-use lib.Seq.{drop-drop, take-take, take-nil, length-take-le}
-use lib.Dec.{leb, eqb}
-use borrow.Author.Tests.{leb-true, leb-false, le-leb}
-use Rattle.std.specs.Prelude.{None}
+use Rattle.std.proofs.Common.{ℕ, zero, suc, ◌+◌, ◌-◌, ◌/◌, ◌≤◌, ◌<◌, ◌≡◌, refl, sym, ap, ◌∙◌, Bool, true, false, ◌||◌, List, [], ◌∷◌, arith, length, take, drop, length-drop, drop-drop, take-take, length-take-le, leb, eqb, leb-true, leb-false, le-leb, None}
+use Rattle.std.proofs.Math.Nat.{div-eq_of_lt, div-eq-sub-div}
+use Rattle.std.proofs.Math.Seq.{take-nil}
 use Rattle.codec.specs.Cases.{pick}
 use Rattle.att.specs.Wire as wire
 use Rattle.att.specs.Wire.{Tail, first, by_format, rows, shape_of, send, tail_decodes, Sent, NotSent}

@@ -4,9 +4,9 @@
 // A port of src/att.rs of trouble-host 0.8.0, which was changed: see NOTICE.
 #![tactic(auto)]
 
-ghost use Rattle.std.specs.Prelude.{◌≡◌, ◌∷◌, []};
-ghost use Rattle.att.specs.Typed.{span, show_att, show_client, show_req, show_cfm, show_server, show_rsp, show_uns};
-ghost use Rattle.att_layout.specs.Layout.{plain, fixed_of, followed_by, layout_of};
+ghost use Rattle.std.specs.Prelude.{◌≡◌, ◌+◌, length};
+ghost use Rattle.att.specs.Typed.{span, show_att, show_client, show_req, show_server, show_rsp, show_uns};
+ghost use Rattle.att_layout.specs.Layout.{field_bytes, plain, followed_by, layout_of};
 ghost use Rattle.att_layout.specs.declared.Follows.TheVariants.{AUuid};
 
 use att::{
@@ -16,7 +16,7 @@ use att::{
     ATT_PREPARE_WRITE_REQ, ATT_READ_BLOB_REQ, ATT_READ_BLOB_RSP, ATT_READ_BY_GROUP_TYPE_REQ,
     ATT_READ_BY_GROUP_TYPE_RSP, ATT_READ_BY_TYPE_REQ, ATT_READ_BY_TYPE_RSP, ATT_READ_MULTIPLE_REQ,
     ATT_READ_REQ, ATT_READ_RSP, ATT_WRITE_CMD, ATT_WRITE_REQ, ATT_WRITE_RSP, Att, AttCfm,
-    AttClient, AttReq, AttRsp, AttServer, AttUns, Span,
+    AttClient, AttCmd, AttReq, AttRsp, AttServer, AttUns, Span,
 };
 use ble_uuid::Uuid;
 
@@ -38,6 +38,20 @@ pub enum Fields {
     Pair(u16, u16),
     Triple(u16, u16, u16),
     Error(u8, u16, u8),
+}
+
+impl Fields {
+    fn len(self) -> usize
+        ensures { result ≡ length (field_bytes self) }
+    {
+        match self {
+            Fields::Bare => 0,
+            Fields::Byte(_) => 1,
+            Fields::Word(_) => 2,
+            Fields::Pair(..) | Fields::Error(..) => 4,
+            Fields::Triple(..) => 6,
+        }
+    }
 }
 
 // The opcode and the fixed fields, which are `len` bytes together.
@@ -66,17 +80,13 @@ fn lay_out_client(c: AttClient) -> Layout
 {
     match c {
         AttClient::Request(r) => lay_out_req(r),
-        AttClient::Command(w) => followed(word(ATT_WRITE_CMD, w.handle), Follows::Data, w.data),
-        AttClient::Confirmation(k) => lay_out_cfm(k),
-    }
-}
-
-#[tactic(auto, unfolding(crate::specs::Layout::layout_of, att::specs::Wire::shape_of, att::specs::Wire::rows))]
-fn lay_out_cfm(c: AttCfm) -> Layout
-    ensures { result ≡ layout_of (show_cfm c) }
-{
-    match c {
-        AttCfm::ConfirmIndication => bare(ATT_HANDLE_VALUE_CFM),
+        AttClient::Command(AttCmd { handle, data }) => {
+            let l = fixed(ATT_WRITE_CMD, Fields::Word(handle));
+            followed(l, Follows::Data, data)
+        }
+        AttClient::Confirmation(AttCfm::ConfirmIndication) => {
+            fixed(ATT_HANDLE_VALUE_CFM, Fields::Bare)
+        }
     }
 }
 
@@ -89,54 +99,60 @@ fn lay_out_req(r: AttReq) -> Layout
             start,
             end,
             group_type,
-        } => typed(pair(ATT_READ_BY_GROUP_TYPE_REQ, start, end), group_type),
+        } => {
+            let l = fixed(ATT_READ_BY_GROUP_TYPE_REQ, Fields::Pair(start, end));
+            typed(l, group_type)
+        }
         AttReq::ReadByType {
             start,
             end,
             attribute_type,
-        } => typed(pair(ATT_READ_BY_TYPE_REQ, start, end), attribute_type),
-        AttReq::Read { handle } => word(ATT_READ_REQ, handle),
-        AttReq::Write { handle, data } => followed(
-            word(ATT_WRITE_REQ, handle),
-            Follows::Data,
-            data,
-        ),
-        AttReq::ExchangeMtu { mtu } => word(ATT_EXCHANGE_MTU_REQ, mtu),
+        } => {
+            let l = fixed(ATT_READ_BY_TYPE_REQ, Fields::Pair(start, end));
+            typed(l, attribute_type)
+        }
+        AttReq::Read { handle } => fixed(ATT_READ_REQ, Fields::Word(handle)),
+        AttReq::Write { handle, data } => {
+            let l = fixed(ATT_WRITE_REQ, Fields::Word(handle));
+            followed(l, Follows::Data, data)
+        }
+        AttReq::ExchangeMtu { mtu } => fixed(ATT_EXCHANGE_MTU_REQ, Fields::Word(mtu)),
         AttReq::FindByTypeValue {
             start_handle,
             end_handle,
             att_type,
             att_value,
-        } => followed(
-            triple(
-                ATT_FIND_BY_TYPE_VALUE_REQ,
-                start_handle,
-                end_handle,
-                att_type,
-            ),
-            Follows::Data,
-            att_value,
-        ),
+        } => {
+            let fields = Fields::Triple(start_handle, end_handle, att_type);
+            followed(
+                fixed(ATT_FIND_BY_TYPE_VALUE_REQ, fields),
+                Follows::Data,
+                att_value,
+            )
+        }
         AttReq::FindInformation {
             start_handle,
             end_handle,
-        } => pair(ATT_FIND_INFORMATION_REQ, start_handle, end_handle),
+        } => fixed(
+            ATT_FIND_INFORMATION_REQ,
+            Fields::Pair(start_handle, end_handle),
+        ),
         AttReq::PrepareWrite {
             handle,
             offset,
             value,
-        } => followed(
-            pair(ATT_PREPARE_WRITE_REQ, handle, offset),
-            Follows::Data,
-            value,
-        ),
-        AttReq::ExecuteWrite { flags } => byte(ATT_EXECUTE_WRITE_REQ, flags),
-        AttReq::ReadMultiple { handles } => followed(
-            bare(ATT_READ_MULTIPLE_REQ),
-            Follows::Data,
-            handles,
-        ),
-        AttReq::ReadBlob { handle, offset } => pair(ATT_READ_BLOB_REQ, handle, offset),
+        } => {
+            let l = fixed(ATT_PREPARE_WRITE_REQ, Fields::Pair(handle, offset));
+            followed(l, Follows::Data, value)
+        }
+        AttReq::ExecuteWrite { flags } => fixed(ATT_EXECUTE_WRITE_REQ, Fields::Byte(flags)),
+        AttReq::ReadMultiple { handles } => {
+            let l = fixed(ATT_READ_MULTIPLE_REQ, Fields::Bare);
+            followed(l, Follows::Data, handles)
+        }
+        AttReq::ReadBlob { handle, offset } => {
+            fixed(ATT_READ_BLOB_REQ, Fields::Pair(handle, offset))
+        }
     }
 }
 
@@ -154,41 +170,35 @@ fn lay_out_rsp(r: AttRsp) -> Layout
     ensures { result ≡ layout_of (show_rsp r) }
 {
     match r {
-        AttRsp::ExchangeMtu { mtu } => word(ATT_EXCHANGE_MTU_RSP, mtu),
-        AttRsp::FindByTypeValue { items } => followed(
-            bare(ATT_FIND_BY_TYPE_VALUE_RSP),
-            Follows::Items(4),
-            items,
-        ),
+        AttRsp::ExchangeMtu { mtu } => fixed(ATT_EXCHANGE_MTU_RSP, Fields::Word(mtu)),
+        AttRsp::FindByTypeValue { items } => {
+            let l = fixed(ATT_FIND_BY_TYPE_VALUE_RSP, Fields::Bare);
+            followed(l, Follows::Items(4), items)
+        }
         AttRsp::FindInformation { format, items } => {
-            followed(
-                byte(ATT_FIND_INFORMATION_RSP, u8::from(format)),
-                Follows::Items(format.pair_len()),
-                items,
-            )
+            let l = fixed(ATT_FIND_INFORMATION_RSP, Fields::Byte(u8::from(format)));
+            followed(l, Follows::Items(format.pair_len()), items)
         }
         AttRsp::Error {
             request,
             handle,
             code,
-        } => error(request, handle, code.value),
+        } => fixed(ATT_ERROR_RSP, Fields::Error(request, handle, code.value)),
         AttRsp::ReadByType { item_len, items } => {
-            followed(
-                byte(ATT_READ_BY_TYPE_RSP, item_len),
-                Follows::Items(usize::from(item_len)),
-                items,
-            )
+            let l = fixed(ATT_READ_BY_TYPE_RSP, Fields::Byte(item_len));
+            followed(l, Follows::Items(usize::from(item_len)), items)
         }
         AttRsp::ReadByGroupType { item_len, items } => {
-            followed(
-                byte(ATT_READ_BY_GROUP_TYPE_RSP, item_len),
-                Follows::Items(usize::from(item_len)),
-                items,
-            )
+            let l = fixed(ATT_READ_BY_GROUP_TYPE_RSP, Fields::Byte(item_len));
+            followed(l, Follows::Items(usize::from(item_len)), items)
         }
-        AttRsp::Read { data } => followed(bare(ATT_READ_RSP), Follows::Data, data),
-        AttRsp::ReadBlob { data } => followed(bare(ATT_READ_BLOB_RSP), Follows::Data, data),
-        AttRsp::Write => bare(ATT_WRITE_RSP),
+        AttRsp::Read { data } => followed(fixed(ATT_READ_RSP, Fields::Bare), Follows::Data, data),
+        AttRsp::ReadBlob { data } => followed(
+            fixed(ATT_READ_BLOB_RSP, Fields::Bare),
+            Follows::Data,
+            data,
+        ),
+        AttRsp::Write => fixed(ATT_WRITE_RSP, Fields::Bare),
     }
 }
 
@@ -197,64 +207,25 @@ fn lay_out_uns(u: AttUns) -> Layout
     ensures { result ≡ layout_of (show_uns u) }
 {
     match u {
-        AttUns::Notify { handle, data } => followed(
-            word(ATT_HANDLE_VALUE_NTF, handle),
-            Follows::Data,
-            data,
-        ),
-        AttUns::Indicate { handle, data } => followed(
-            word(ATT_HANDLE_VALUE_IND, handle),
-            Follows::Data,
-            data,
-        ),
+        AttUns::Notify { handle, data } => {
+            let l = fixed(ATT_HANDLE_VALUE_NTF, Fields::Word(handle));
+            followed(l, Follows::Data, data)
+        }
+        AttUns::Indicate { handle, data } => {
+            let l = fixed(ATT_HANDLE_VALUE_IND, Fields::Word(handle));
+            followed(l, Follows::Data, data)
+        }
     }
 }
 
-// An opcode with its fixed fields, by their widths: none, a byte, a word, two words, three, and those
-// of an error.
-fn bare(op: u8) -> Layout
-    ensures { result ≡ fixed_of op [] [] }
-{
-    fixed(op, Fields::Bare, 1)
-}
-
-fn byte(op: u8, v: u8) -> Layout
-    ensures { result ≡ fixed_of op (1 ∷ []) (v ∷ []) }
-{
-    fixed(op, Fields::Byte(v), 2)
-}
-
-fn word(op: u8, v: u16) -> Layout
-    ensures { result ≡ fixed_of op (2 ∷ []) (v ∷ []) }
-{
-    fixed(op, Fields::Word(v), 3)
-}
-
-fn pair(op: u8, v: u16, w: u16) -> Layout
-    ensures { result ≡ fixed_of op (2 ∷ 2 ∷ []) (v ∷ w ∷ []) }
-{
-    fixed(op, Fields::Pair(v, w), 5)
-}
-
-fn triple(op: u8, v: u16, w: u16, x: u16) -> Layout
-    ensures { result ≡ fixed_of op (2 ∷ 2 ∷ 2 ∷ []) (v ∷ w ∷ x ∷ []) }
-{
-    fixed(op, Fields::Triple(v, w, x), 7)
-}
-
-fn error(request: u8, handle: u16, code: u8) -> Layout
-    ensures { result ≡ fixed_of 0x01 (1 ∷ 2 ∷ 1 ∷ []) (request ∷ handle ∷ code ∷ []) }
-{
-    fixed(ATT_ERROR_RSP, Fields::Error(request, handle, code), 5)
-}
-
-fn fixed(opcode: u8, fields: Fields, len: usize) -> Layout
-    ensures { result ≡ plain opcode fields len }
+// An opcode with its fixed fields, and nothing behind them.
+fn fixed(opcode: u8, fields: Fields) -> Layout
+    ensures { result ≡ plain opcode fields (1 + length (field_bytes fields)) }
 {
     Layout {
         opcode,
         fields,
-        len,
+        len: 1 + fields.len(),
         follows: Follows::Nothing,
         part: Span { at: 0, len: 0 },
     }

@@ -1,10 +1,5 @@
 -- The strict test by the first byte: nothing is not strict, and an opcode of no row is no packet.
-use Prim.Native.Nat.{ℕ, ◌<◌}
-use mathlib.Core.Bool.{false}
-use mathlib.Core.Path.{◌≡◌, refl}
-use mathlib.Core.List.{List, [], ◌∷◌}
-use native.Mathlib.Omega.{arith}
-use lib.ListN.{length, drop, get_or}
+use Rattle.std.proofs.Common.{ℕ, ◌<◌, false, ◌≡◌, refl, List, [], ◌∷◌, arith, length, drop, get_or}
 use Rattle.codec.specs.Cases.{None}
 use Rattle.codec.specs.CasesLaws.{missing}
 use Rattle.att.specs.Wire.{shape, NoPacket, rows, shape_of, shape_strict, strict}
