@@ -1,9 +1,9 @@
 // Numbers in decimal, without padding.
 #![tactic(auto)]
 
-ghost use Rattle.std.specs.Prelude.{◌≡◌, ◌++◌, ◌≤◌, length, take};
+ghost use Rattle.std.specs.Prelude.{◌≡◌, ◌++◌, take};
 ghost use Rattle.io.specs.Counts.{IsPrefixLen};
-ghost use Rattle.codec.specs.Buffer.{over, laid, written};
+ghost use Rattle.codec.specs.Buffer.{laid, written};
 ghost use Rattle.text_decimal.specs.Decimal.{decimal_text};
 
 use codec::Error;
@@ -22,28 +22,15 @@ pub fn write_between(front: &[u8], n: u8, back: &[u8], out: &mut [u8]) -> Result
     ensures out_after { out.new ≡ laid (front.now ++ (decimal_text n ++ back.now)) out.old }
 {
     let mut spelt = [0u8; 20];
-    let d = spell(n as u64, &mut spelt);
+    let d = spell(u64::from(n), &mut spelt);
     let f = front.len();
     let room = out.len();
-    if room < f {
+    if room < f || room - f < d || room - f - d < back.len() {
         return Err(Error::InsufficientSpace);
     }
-    if room - f < d {
-        return Err(Error::InsufficientSpace);
-    }
-    if room - f - d < back.len() {
-        return Err(Error::InsufficientSpace);
-    }
-    put(front, out);
-    put(&spelt[..d], &mut out[f..]);
+    codec::write_bytes(front, out)?;
+    codec::write_bytes(&spelt[..d], &mut out[f..])?;
     let at = f + d;
-    put(back, &mut out[at..]);
-    Ok(at + back.len())
-}
-
-fn put(src: &[u8], dest: &mut [u8])
-    requires { length src.now ≤ length dest.old }
-    ensures { dest.new ≡ over src.now dest.old }
-{
-    dest[..src.len()].copy_from_slice(src);
+    let b = codec::write_bytes(back, &mut out[at..])?;
+    Ok(at + b)
 }
