@@ -3,25 +3,27 @@
 #![tactic(auto)]
 
 use std::io::{self, Stdin, Stdout};
-use text_hex::Hex;
+use text_hex::HexError;
 use text_lines::Seen;
+use text_print::Line;
 
 // The longest answer has room in its line.
 fn answer_packet(to: Stdout, src: &[u8]) -> io::Result<()> {
     let mut out = [0u8; 32768];
-    let at = explain_packet::line(src, &mut out);
-    text_console::write_line(to, &mut out, at)
+    let pos = explain_packet::line(src, &mut out);
+    let mut line = Line { out: &mut out, pos };
+    text_console::write_line(to, &mut line)
 }
 
 fn answer_line(to: Stdout, line: &[u8], number: u64) -> io::Result<()> {
     let mut src = [0u8; 2048];
     match text_hex::read_hex(line, &mut src) {
-        Hex::Bytes(n) => answer_packet(to, text_put::first(&src, n)),
-        Hex::NotHex => {
+        Ok(n) => answer_packet(to, text_put::first(&src, n)),
+        Err(HexError::NotHex) => {
             text_console::complain(to, number, b"not hexadecimal")?;
             Ok(())
         }
-        Hex::TooLong => {
+        Err(HexError::TooLong) => {
             text_console::complain(to, number, b"too long")?;
             Ok(())
         }
@@ -30,7 +32,6 @@ fn answer_line(to: Stdout, line: &[u8], number: u64) -> io::Result<()> {
 
 fn answer(to: Stdout, seen: Seen, number: u64, line: &[u8]) -> io::Result<()> {
     match seen {
-        Seen::More => Ok(()),
         Seen::Line(n) => answer_line(to, text_put::first(line, n), number),
         Seen::TooLong => {
             text_console::complain(to, number, b"too long")?;
@@ -40,20 +41,15 @@ fn answer(to: Stdout, seen: Seen, number: u64, line: &[u8]) -> io::Result<()> {
     }
 }
 
-// A proved loop has to end, so it counts its turns down from a number that no run uses up.
+// A proved loop has to end, so it has a number of turns that no run uses up.
 fn run(from: Stdin, to: Stdout, buf: &mut [u8], line: &mut [u8]) -> io::Result<()> {
     let mut input = text_console::start();
-    let mut turns = u64::MAX;
-    while turns > 0 {
-        let came = text_console::next(from, input, buf, line)?;
-        let seen = came.seen;
-        answer(to, seen, came.number, line)?;
-        if !came.more {
+    for _ in 0..u64::MAX {
+        let Some(came) = text_console::next(from, input, buf, line)? else {
             return Ok(());
-        }
-        let next = came.input;
-        input = next;
-        turns -= 1;
+        };
+        answer(to, came.seen, came.number, line)?;
+        input = came.input;
     }
     Ok(())
 }

@@ -1,23 +1,17 @@
 // The text of each of the 256 error codes, a line each.
 #![tactic(auto)]
 
-use codec::Written;
 use std::io::{self, Stdout, Write};
 
 fn write_line(mut to: Stdout, code: u8) -> io::Result<()> {
     let mut line = [0u8; 256];
     match att_text::write_text(code, &mut line) {
-        Written::Done(n) => {
-            if n <= 256 {
-                to.write_all(&line[0..n])?;
-                to.write_all(b"\n")?;
-            }
+        Ok(n) => {
+            to.write_all(line.get(..n).unwrap_or(&[]))?;
+            to.write_all(b"\n")
         }
-        Written::Refused(_) => {
-            to.write_all(b"refused\n")?;
-        }
+        Err(_) => to.write_all(b"refused\n"),
     }
-    Ok(())
 }
 
 fn main(rt: HostRuntime) -> io::Result<()> {
