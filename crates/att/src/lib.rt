@@ -72,7 +72,8 @@ pub const ATT_HANDLE_VALUE_IND: u8 = 0x1D;
 
 pub const ATT_HANDLE_VALUE_CFM: u8 = 0x1E;
 
-// A part of the bytes that a packet was read from.
+// A part of the bytes that a packet was read from. Kept: a range and no slice, since a caller may make a packet
+// over bytes that it does not fit, and that is refused.
 #[derive(Clone, Copy, PartialEq, Eq)]
 pub struct Span {
     pub at: usize,

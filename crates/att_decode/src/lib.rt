@@ -33,6 +33,7 @@ use att_strict::item_len;
 use ble_uuid::Uuid;
 use codec::Error;
 use cursor::remaining;
+use cursor_read::ReadCursor;
 
 // What bytes decode to; what is no packet is refused with InvalidValue.
 #[tactic(auto, using(crate::proofs::Rows::decoded_nil))]
@@ -122,8 +123,9 @@ fn dispatch(op: u8, p: &[u8]) -> Result<Att, Error>
 fn read_blob_of(p: &[u8]) -> Result<Att, Error>
     ensures { result ≡ answered Rest [] 4 p.now (request (req.ReadBlob (number_at 2 0 p.now) (number_at 2 2 p.now))) }
 {
-    let (handle, next) = cursor_read::field(p, 0)?;
-    let (offset, _) = cursor_read::field(p, next)?;
+    let mut r = ReadCursor::new(p);
+    let handle = r.read()?;
+    let offset = r.read()?;
     packet(p, 4, Att::from(AttReq::ReadBlob { handle, offset }))
 }
 

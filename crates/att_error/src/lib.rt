@@ -8,6 +8,7 @@ ghost use Rattle.att_error.specs.Texts.{codes};
 
 use codec::Error;
 
+// Kept: a number with names and no enum, since every byte is a code: 80 to 9F are the application's own.
 #[derive(Clone, Copy, PartialEq, Eq)]
 pub struct AttErrorCode {
     pub value: u8,

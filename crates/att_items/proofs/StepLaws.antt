@@ -3,7 +3,6 @@
 use Rattle.std.proofs.Common.{ℕ, ◌+◌, ◌-◌, ◌≤◌, ◌≡◌, refl, sym, ap, subst, ◌∙◌, Bool, true, false, ◌&&◌, ◌||◌, ◌⊎◌, inl, inr, List, arith, length, take, drop, length-drop, length-take-le, leb, eqb, leb-true, eqb-true, Ok, Err, Some, None}
 use Rattle.codec.specs.Cases.{pick}
 use Rattle.codec.specs.declared.Error.{Error}
-use Rattle.primitives.specs.Numbers.{number_at}
 use Rattle.cursor.specs.Reading.{sliced}
 use Rattle.cursor.proofs.PositionLaws.{gives}
 use Rattle.ble_uuid.specs.Uuids.{uuid_of, sliced as sliced_uuid}
@@ -141,10 +140,6 @@ format_length ns n h e = by (eqb (wire.first ns) 1) (eqb (wire.first ns) 2) e wh
 pub information_length : (s : Shown) (src : List ℕ) (pos : ℕ) (f : Found) → Some f ≡ item_shown 0x05 0x05 s src pos → (f.len ≡ 4) ⊎ (f.len ≡ 18)
 unfolding shape_of rows
 information_length s src pos f e = format_length s.numbers f.len (found_inside 0x05 0x05 s src pos f e).1 (each_found 0x05 s src pos f e)
-
--- what stands behind the handle
-pub behind_handle : (i : List ℕ) (next v : ℕ) → next ≡ 0 + 2 → v ≡ number_at 2 next i → v ≡ number_at 2 2 i
-behind_handle i next v e f = f ∙ ap (λ (at : ℕ). number_at 2 at i) e
 
 -- what is left behind the handle of a pair of 05 is a UUID
 pub uuid_left : (i r : List ℕ) → r ≡ drop 2 i → (length i ≡ 4) ⊎ (length i ≡ 18) → sliced_uuid r ≡ Ok (uuid_of r)

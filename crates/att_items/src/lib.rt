@@ -68,13 +68,7 @@ pub fn find_information_next(att: Att, src: &[u8], pos: usize) -> Option<HandleU
 pub fn read_by_type_next(att: Att, src: &[u8], pos: usize) -> Option<HandleValue>
     ensures { result ≡ value_of (item_shown 0x09 0x11 (show_att att) src.now pos) src.now }
 {
-    let found = item(
-        att,
-        ATT_READ_BY_TYPE_RSP,
-        ATT_READ_BY_GROUP_TYPE_RSP,
-        src,
-        pos,
-    )?;
+    let found = value_item(att, src, pos)?;
     value_at(
         found.at,
         cursor::slice(found.at, src, found.len),
@@ -86,21 +80,26 @@ pub fn read_by_type_next(att: Att, src: &[u8], pos: usize) -> Option<HandleValue
 pub fn read_by_type_rest(att: Att, src: &[u8], pos: usize) -> &[u8]
     ensures { result.now ≡ rest_of (item_shown 0x09 0x11 (show_att att) src.now pos) src.now }
 {
-    let found = item(
-        att,
-        ATT_READ_BY_TYPE_RSP,
-        ATT_READ_BY_GROUP_TYPE_RSP,
-        src,
-        pos,
-    );
-    match found {
+    match value_item(att, src, pos) {
         Some(i) => cursor::remaining(2, cursor::slice(i.at, src, i.len)),
         None => &[],
     }
 }
 
+fn value_item(att: Att, src: &[u8], pos: usize) -> Option<Found>
+    ensures { result ≡ item_shown 0x09 0x11 (show_att att) src.now pos }
+{
+    item(
+        att,
+        ATT_READ_BY_TYPE_RSP,
+        ATT_READ_BY_GROUP_TYPE_RSP,
+        src,
+        pos,
+    )
+}
+
 // The item of a packet of opcode `a` or `b`. A packet that encoding would refuse with InvalidValue has
-// no size, and no item.
+// no size, and no item. Kept: opcodes and no patterns of packets, so that one test serves the three iterators.
 fn item(att: Att, a: u8, b: u8, src: &[u8], pos: usize) -> Option<Found>
     ensures { result ≡ item_shown a b (show_att att) src.now pos }
 {
