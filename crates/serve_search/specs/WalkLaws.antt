@@ -3,7 +3,7 @@ use Prim.Native.Nat.{ℕ, suc, ◌+◌, ◌-◌, ◌≤◌, ◌<◌}
 use Rattle.std.proofs.Math.Bool.{Bool, true, false}
 use Rattle.std.specs.Prelude.{◌&&◌, ◌≡◌, take, drop, get_or, Some, None, Ok, Err}
 use Rattle.std.proofs.Math.Path.{refl, ap, subst}
-use Rattle.std.proofs.Common.{sym, ◌∙◌, arith, take_all, length-take, length-append}
+use Rattle.std.proofs.Common.{sym, ◌∙◌, arith, add-one, take_all, length-take, length-append, drop_of_length-le, length-take-le, drop-cons, get_or-take}
 use Rattle.std.proofs.Math.Seq.{take-suc}
 use Rattle.std.proofs.lemmas.List.{map-append, take-append-drop}
 use mathlib.Core.List.{List, [], ◌∷◌, ◌++◌, map}
@@ -190,3 +190,16 @@ module _ (q : Asked) (s : State) where
 pub taken_same : (room n : ℕ) (head : Head) (tail b : List ℕ) (p : Progress) (area : List ℕ) (w : Walk) → n ≡ room → b ≡ tail
     → taken n (head_of head ++ b) p area ≡ w → taken room (head_of head ++ tail) p area ≡ w
 taken_same room n head tail b p area w e f h = rw (← e, ← f) h
+
+-- The walk over the first `n` records of an array, one at a time, where each gives a part.
+module _ (room : ℕ) (gives : Record → Part) (w : Walk) (i n : ℕ) (rs : List Record) (q : n ≤ length rs) where
+  pub walk_next : (d : Record) → i < n
+      → fold (step room) w (map gives (drop i (take n rs))) ≡ fold (step room) (step room w (gives (get_or rs i d))) (map gives (drop (i + 1) (take n rs)))
+  walk_next d p =
+      let k : i < length (take n rs) = rw (length-take-le n rs) (omega arith) in
+      rw (drop-cons (take n rs) i d k, get_or-take n rs i d p, add-one i)
+
+  pub walk_over : n ≤ i → fold (step room) w (map gives (drop i (take n rs))) ≡ w
+  walk_over p =
+      let k : length (take n rs) ≤ i = rw (length-take-le n rs) p in
+      rw (drop_of_length-le (take n rs) k)
