@@ -5,123 +5,66 @@
 #![tactic(auto)]
 
 ghost use Rattle.std.specs.Prelude.{◌≡◌, length};
-ghost use Rattle.text_put.specs.Put.{behind, holding};
+ghost use Rattle.text_print.specs.Lines.{Puts};
 ghost use Rattle.replay_packets.specs.Places.{place_texts};
 
-use att::{Att, AttClient, AttReq, Length, Parsed, Span};
-use att_items::HandleValue;
+use att::{Att, AttClient, AttReq, Span};
 use att_layout::Follows;
 use ble_uuid::Uuid;
-use codec::{Error, Written};
-use replay_rooms::Asked;
-use text_hex::Handle;
+use codec::{Error, Refusal};
+use text_print::Line;
+
+// ROOMS of the encoding of a packet, behind a text.
+fn rooms(att: Att, src: &[u8], full: &[u8], reply: &mut Line<'_>, name: &[u8]) {
+    let call = |room: &mut [u8]| att_encode::encode(att, src, room);
+    replay_rooms::tried(&call, full, reply, name);
+}
 
 // ROOMS, of what the line shows that encoding writes: the packet itself where it is strict.
-fn rooms(att: Att, u: Uuid, src: &[u8], out: &mut [u8], pos: usize) -> usize {
+fn packet_rooms(att: Att, src: &[u8], reply: &mut Line<'_>) {
     let mut bytes = [0u8; 1032];
     if att_strict::strict(src) {
-        return replay_rooms::tried(Asked::Packet(att), u, src, src, out, pos, b" rooms=");
+        return rooms(att, src, src, reply, b" rooms=");
     }
-    match att_encode::encode(att, u, src, &mut bytes) {
-        Written::Done(n) => {
-            let full = text_put::first(&bytes, n);
-            replay_rooms::tried(Asked::Packet(att), u, src, full, out, pos, b" rooms=")
-        }
-        Written::Refused(e) => replay_base::refused(out, pos, b" ", e),
+    match att_encode::encode(att, src, &mut bytes) {
+        Ok(n) => rooms(att, src, text_put::first(&bytes, n), reply, b" rooms="),
+        Err(e) => replay_base::refused(reply, b" ", e),
     }
 }
 
 // ` at=START+LENGTH`, the place of a data field.
-#[tactic(auto, unfolding(text_put::specs::Put::behind, text_put::specs::Put::holding))]
-fn place(out: &mut [u8], pos: usize, src: &[u8], d: Span) -> usize
-    ensures value { result ≡ behind (place_texts d src.now) pos out.old }
-    ensures out_after { out.new ≡ holding (place_texts d src.now) pos out.old }
+#[tactic(auto, unfolding(text_print::specs::Lines::behind, text_print::specs::Lines::holding))]
+fn place(reply: &mut Line<'_>, src: &[u8], d: Span)
+    ensures { Puts (place_texts d src.now) reply.old reply.new }
 {
     let n = att_decode::data(src, d).len();
-    let at = text_put::count(out, pos, b" at=", d.at as u64);
-    text_put::count(out, at, b"+", n as u64)
-}
-
-// What an item was written as: the position behind it on the line, and the position of the next item;
-// or that there is none.
-#[derive(Clone, Copy)]
-struct Shown {
-    at: usize,
-    next: usize,
-    more: bool,
-}
-
-fn ended(at: usize) -> Shown {
-    Shown {
-        at,
-        next: 0,
-        more: false,
-    }
-}
-
-// The value of an item is told twice, as a range and as a part, which have to be equally long.
-fn item(att: Att, src: &[u8], out: &mut [u8], at: usize, pos: usize) -> Shown {
-    match att_items::read_by_type_next(att, src, pos) {
-        HandleValue::Item {
-            handle: _,
-            rest,
-            next,
-        } => {
-            if att_items::read_by_type_rest(att, src, pos).len() != rest.len {
-                return ended(at);
-            }
-            let at = place(out, at, src, rest);
-            Shown {
-                at,
-                next,
-                more: true,
-            }
-        }
-        HandleValue::End => ended(at),
-    }
+    text_put::count(reply, b" at=", d.at as u64);
+    text_put::count(reply, b"+", n as u64);
 }
 
 // The places of the values of all items. A packet has fewer items than bytes.
-fn items(att: Att, src: &[u8], out: &mut [u8], start: usize) -> usize {
-    let mut at = start;
+fn items(att: Att, src: &[u8], reply: &mut Line<'_>) {
     let mut pos = 0;
-    let mut left = src.len();
-    while left > 0 {
-        let s = item(att, src, out, at, pos);
-        if !s.more {
-            return at;
+    for _ in 0..src.len() {
+        let Some(item) = att_items::read_by_type_next(att, src, pos) else {
+            return;
+        };
+        // The value is told twice, as a range and as a part, which have to be equally long.
+        if att_items::read_by_type_rest(att, src, pos).len() != item.rest.len {
+            return;
         }
-        at = s.at;
-        pos = s.next;
-        left -= 1;
+        place(reply, src, item.rest);
+        pos = item.next;
     }
-    at
 }
 
 // The places of a data field, or of the values of items; other packets have no parts.
-fn places(att: Att, src: &[u8], out: &mut [u8], pos: usize) -> usize {
-    let l = att_layout::lay_out(att);
-    let follows = l.follows;
-    let part = l.part;
-    match follows {
-        Follows::Nothing => pos,
-        Follows::Data => place(out, pos, src, part),
-        Follows::Items(_) => items(att, src, out, pos),
-        Follows::AUuid => pos,
-    }
-}
-
-fn packet_reply(src: &[u8], out: &mut [u8]) -> usize {
-    let at = explain_packet::line(src, out);
-    let d = att_decode::decode(src);
-    let answer = d.answer;
-    let u = d.uuid;
-    match answer {
-        Parsed::Packet(att) => {
-            let at = rooms(att, u, src, out, at);
-            places(att, src, out, at)
-        }
-        Parsed::Refused(_) => at,
+fn places(att: Att, src: &[u8], reply: &mut Line<'_>) {
+    let layout = att_layout::lay_out(att);
+    match layout.follows {
+        Follows::Data => place(reply, src, layout.part),
+        Follows::Items(_) => items(att, src, reply),
+        Follows::Nothing | Follows::AUuid(_) => {}
     }
 }
 
@@ -132,49 +75,61 @@ pub fn packet(line: &[u8], out: &mut [u8]) -> usize
 {
     let mut buf = [0u8; 1024];
     let n = replay_base::bytes(text_lines::word(line, 2), &mut buf);
-    packet_reply(text_put::first(&buf, n), out)
+    let src = &buf[..n];
+    let at = explain_packet::line(src, out);
+    let mut reply = Line { out, pos: at };
+    if let Ok(att) = att_decode::decode(src) {
+        packet_rooms(att, src, &mut reply);
+        places(att, src, &mut reply);
+    }
+    reply.pos
 }
 
-fn size(att: Att, u: Uuid, out: &mut [u8], pos: usize) -> usize {
-    match att_encode::size(att, u, b"") {
-        Length::Bytes(n) => text_put::count(out, pos, b" ", n as u64),
-        Length::Refused(e) => replay_base::refused(out, pos, b" ", e),
+fn size(att: Att, reply: &mut Line<'_>) {
+    match att_encode::size(att, b"") {
+        Ok(n) => text_put::count(reply, b" ", n as u64),
+        Err(e) => replay_base::refused(reply, b" ", e),
     }
 }
 
 fn handle(word: &[u8]) -> u16 {
-    match text_hex::read_handle(word) {
-        Handle::At(h) => h,
-        Handle::NotHandle => 0,
-    }
+    text_hex::read_handle(word).unwrap_or(0)
 }
 
-fn request(op: u8, start: u16, end: u16) -> Att {
-    match op {
-        0x08 => Att::Client(AttClient::Request(AttReq::ReadByType { start, end })),
-        _ => Att::Client(AttClient::Request(AttReq::ReadByGroupType { start, end })),
-    }
+fn request(op: u8, start: u16, end: u16, kind: Uuid) -> Att {
+    Att::Client(AttClient::Request(match op {
+        0x08 => AttReq::ReadByType {
+            start,
+            end,
+            attribute_type: kind,
+        },
+        _ => AttReq::ReadByGroupType {
+            start,
+            end,
+            group_type: kind,
+        },
+    }))
 }
 
 // A refused encoding: so in all the rooms from 0 to 24.
-fn not_encoded(att: Att, u: Uuid, e: Error, out: &mut [u8]) -> usize {
-    let at = replay_base::refused(out, 0, b"", e);
-    let at = size(att, u, out, at);
-    let number = codec::number(codec::from_error(e));
-    let n = replay_rooms::refusing(Asked::Packet(att), u, b"", number, 25);
-    text_put::count(out, at, b" ", n as u64)
+fn not_encoded(att: Att, e: Error, reply: &mut Line<'_>) {
+    let call = |room: &mut [u8]| att_encode::encode(att, b"", room);
+    replay_base::refused(reply, b"", e);
+    size(att, reply);
+    let n = replay_rooms::refusing(&call, u8::from(Refusal::from(e)), 25);
+    text_put::count(reply, b" ", n as u64);
 }
 
-fn typed_reply(att: Att, u: Uuid, out: &mut [u8]) -> usize {
+fn typed_reply(att: Att, reply: &mut Line<'_>) {
     let mut bytes = [0u8; 64];
-    match att_encode::encode(att, u, b"", &mut bytes) {
-        Written::Done(n) => {
+    match att_encode::encode(att, b"", &mut bytes) {
+        Ok(n) => {
             let full = text_put::first(&bytes, n);
-            let at = text_print::hex(out, 0, full);
-            let at = size(att, u, out, at);
-            replay_rooms::tried(Asked::Packet(att), u, b"", full, out, at, b" ")
+            reply.hex(full);
+            size(att, reply);
+            rooms(att, b"", full, reply, b" ");
         }
-        Written::Refused(e) => not_encoded(att, u, e, out),
+        Err(e) => not_encoded(att, e, reply),
     }
 }
 
@@ -183,12 +138,13 @@ pub fn typed(line: &[u8], out: &mut [u8]) -> usize
     // The line keeps its length; its words are compared with the Rust, and not proved.
     ensures { length out.new ≡ length out.old }
 {
+    let mut reply = Line::new(out);
     let mut buf = [0u8; 64];
-    let op = replay_base::little(text_lines::word(line, 2));
+    let [op, ..] = replay_base::little(text_lines::word(line, 2));
     let start = handle(text_lines::word(line, 3));
     let end = handle(text_lines::word(line, 4));
     let n = replay_base::bytes(text_lines::word(line, 5), &mut buf);
-    let s = ble_uuid::from_slice(text_put::first(&buf, n));
-    let u = s.uuid;
-    typed_reply(request(op[0], start, end), u, out)
+    let kind = Uuid::try_from(&buf[..n]).unwrap_or(ble_uuid::no_uuid());
+    typed_reply(request(op, start, end, kind), &mut reply);
+    reply.pos
 }
