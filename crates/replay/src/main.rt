@@ -6,21 +6,14 @@
 ghost use Rattle.std.specs.Prelude.{◌≤◌, length};
 
 use std::io::{self, Stdin, Stdout};
-use text_console::Input;
 use text_lines::Seen;
+use text_print::Line;
 
 // The lines with a REPLY so far, and how many of them were answered otherwise.
 #[derive(Clone, Copy)]
 struct Tally {
     lines: u64,
     different: u64,
-}
-
-#[derive(Clone, Copy)]
-struct Turned {
-    input: Input,
-    tally: Tally,
-    more: bool,
 }
 
 // The reply to a request: the words behind the first.
@@ -35,36 +28,21 @@ fn reply(line: &[u8], out: &mut [u8]) -> usize {
         b'E' => replay_values::encoded(line, out),
         b'R' => replay_walk::read(line, out),
         b'W' => replay_walk::write_walk(line, out),
-        _ => text_print::text(out, 0, b"unknown request"),
+        _ => {
+            let mut line = Line::new(out);
+            line.text(b"unknown request");
+            line.pos
+        }
     }
 }
 
-// Whether bytes begin with the character c between two blanks.
-fn marked(bytes: &[u8], c: u8) -> bool {
-    if bytes.len() < 3 {
-        return false;
-    }
-    if bytes[0] != 32 {
-        return false;
-    }
-    if bytes[1] != c {
-        return false;
-    }
-    bytes[2] == 32
-}
-
-// Where the first such mark stands; the line's length where there is none.
+// Where the character c first stands between two blanks; the line's length where it does not.
 fn mark(line: &[u8], c: u8) -> usize
     ensures { result ≤ length line.now }
 {
-    let mut i = 0;
-    while i < line.len() {
-        if marked(&line[i..], c) {
-            return i;
-        }
-        i += 1;
-    }
-    i
+    line.windows(3)
+        .position(|w| w == [b' ', c, b' '].as_slice())
+        .unwrap_or(line.len())
 }
 
 // What stands behind the mark.
@@ -79,111 +57,76 @@ fn wanted(line: &[u8]) -> &[u8] {
     text_put::first(reply, mark(reply, b'|'))
 }
 
-fn counted(n: u64) -> u64 {
-    if n < u64::MAX { n + 1 } else { n }
-}
-
 fn write_difference(to: Stdout, number: u64, own: &[u8]) -> io::Result<()> {
     let mut out = [0u8; 16448];
-    let at = text_put::count(&mut out, 0, b"line ", number);
-    let at = text_print::text(&mut out, at, b": ");
-    let at = text_print::text(&mut out, at, own);
-    text_console::write_line(to, &mut out, at)
+    let mut line = Line::new(&mut out);
+    text_put::count(&mut line, b"line ", number);
+    line.text(b": ");
+    line.text(own);
+    text_console::write_line(to, &mut line)
 }
 
 // A line with a REPLY: nothing is written where the answer is the same.
-fn compare(to: Stdout, line: &[u8], number: u64, tally: Tally) -> io::Result<Tally> {
+fn compare(to: Stdout, line: &[u8], number: u64, tally: &mut Tally) -> io::Result<()> {
     let mut out = [0u8; 16384];
     let n = reply(line, &mut out);
     let own = text_put::first(&out, n);
-    let lines = counted(tally.lines);
-    if own == wanted(line) {
-        return Ok(Tally {
-            lines,
-            different: tally.different,
-        });
+    tally.lines = tally.lines.saturating_add(1);
+    if own != wanted(line) {
+        write_difference(to, number, own)?;
+        tally.different = tally.different.saturating_add(1);
     }
-    write_difference(to, number, own)?;
-    Ok(Tally {
-        lines,
-        different: counted(tally.different),
-    })
+    Ok(())
 }
 
 fn answer(to: Stdout, line: &[u8]) -> io::Result<()> {
     let mut out = [0u8; 16384];
-    let at = reply(line, &mut out);
-    text_console::write_line(to, &mut out, at)
+    let pos = reply(line, &mut out);
+    text_console::write_line(to, &mut Line { out: &mut out, pos })
 }
 
-fn take(to: Stdout, line: &[u8], number: u64, tally: Tally) -> io::Result<Tally> {
-    if replay_base::letter(text_lines::word(line, 0)) == b'?' {
-        answer(to, line)?;
-        return Ok(tally);
-    }
-    compare(to, line, number, tally)
-}
-
-fn take_seen(to: Stdout, seen: Seen, number: u64, line: &[u8], tally: Tally) -> io::Result<Tally> {
+fn take(to: Stdout, seen: Seen, line: &[u8], number: u64, tally: &mut Tally) -> io::Result<()> {
     match seen {
-        Seen::More => Ok(tally),
-        Seen::Line(n) => take(to, text_put::first(line, n), number, tally),
+        Seen::Line(n) => {
+            let line = text_put::first(line, n);
+            if replay_base::letter(text_lines::word(line, 0)) == b'?' {
+                return answer(to, line);
+            }
+            compare(to, line, number, tally)
+        }
         Seen::TooLong => {
             text_console::complain(to, number, b"too long")?;
-            Ok(tally)
+            Ok(())
         }
-        Seen::Passed => Ok(tally),
+        Seen::Passed => Ok(()),
     }
 }
 
 // How many lines had a REPLY, and how many of them were answered otherwise.
 fn conclude(to: Stdout, tally: Tally) -> io::Result<()> {
-    let mut out = [0u8; 128];
     if tally.lines == 0 {
         return Ok(());
     }
-    let at = text_put::count(&mut out, 0, b"compared ", tally.lines);
-    let at = text_put::count(&mut out, at, b", different ", tally.different);
-    text_console::write_line(to, &mut out, at)
+    let mut out = [0u8; 128];
+    let mut line = Line::new(&mut out);
+    text_put::count(&mut line, b"compared ", tally.lines);
+    text_put::count(&mut line, b", different ", tally.different);
+    text_console::write_line(to, &mut line)
 }
 
-fn turn(
-    from: Stdin,
-    to: Stdout,
-    input: Input,
-    tally: Tally,
-    buf: &mut [u8],
-    line: &mut [u8],
-) -> io::Result<Turned> {
-    let came = text_console::next(from, input, buf, line)?;
-    let seen = came.seen;
-    let next = came.input;
-    let tally = take_seen(to, seen, came.number, line, tally)?;
-    Ok(Turned {
-        input: next,
-        tally,
-        more: came.more,
-    })
-}
-
-// A proved loop has to end, so it counts its turns down from a number that no run uses up.
+// A proved loop has to end, so it has a number of turns that no run uses up.
 fn run(from: Stdin, to: Stdout, buf: &mut [u8], line: &mut [u8]) -> io::Result<()> {
     let mut input = text_console::start();
     let mut tally = Tally {
         lines: 0,
         different: 0,
     };
-    let mut turns = u64::MAX;
-    while turns > 0 {
-        let t = turn(from, to, input, tally, buf, line)?;
-        let next = t.input;
-        let sum = t.tally;
-        if !t.more {
-            return conclude(to, sum);
-        }
-        input = next;
-        tally = sum;
-        turns -= 1;
+    for _ in 0..u64::MAX {
+        let Some(came) = text_console::next(from, input, buf, line)? else {
+            return conclude(to, tally);
+        };
+        take(to, came.seen, line, came.number, &mut tally)?;
+        input = came.input;
     }
     Ok(())
 }

@@ -1,9 +1,0 @@
--- The place looked at stays within the line, and what is left of the line gets less.
-use Rattle.std.proofs.Common.{◌≤◌, ◌-◌, length}
-use Rattle.replay.proofs.mark.Given as goal
-
-abbrev pub invariant-loop-i : goal.invariant-loop-i
-invariant-loop-i l = l.i ≤ length l.line
-
-abbrev pub decreases-loop-i : goal.decreases-loop-i
-decreases-loop-i l = length l.line - l.i
