@@ -19,7 +19,7 @@ said k word = said_by k (hex_means word)
 
 -- the first n bytes turned round
 abbrev pub turned : ℕ → List ℕ → List ℕ
-turned n b = reverse (take n b) ++ drop n b
+turned n b = pick (leb n 4) (reverse (take n b) ++ drop n b) b
 
 abbrev pub little_of : List ℕ → List ℕ
 little_of word = turned (result_unwrap_or (answered (hex_means word) 4) 0) (filled (hex_means word) (replicate 4 0))

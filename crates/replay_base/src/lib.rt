@@ -30,6 +30,7 @@ pub fn bytes(word: &[u8], buf: &mut [u8]) -> usize
 }
 
 // A number in hexadecimal digits, its four bytes with the least significant first.
+#[tactic(auto, using(crate::specs::BaseLaws::turned_round))]
 pub fn little(word: &[u8]) -> [u8; 4]
     ensures { result ≡ little_of word.now }
 {

@@ -1,1 +1,2 @@
 pub mod Tills
+pub mod TillsLaws
