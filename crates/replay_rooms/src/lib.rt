@@ -75,6 +75,7 @@ fn writes<F: Fn(&mut [u8]) -> Result<usize, Error>>(
 }
 
 // How many rooms from 0 on refuse with this number, and how many from there on are written.
+// A closure has to be callable, which every one is that has no `requires` of its own.
 pub fn refusing<F: Fn(&mut [u8]) -> Result<usize, Error>>(
     call: &F,
     number: u8,
@@ -118,6 +119,7 @@ fn rooms(line: &mut Line<'_>, name: &[u8], untouched: usize, encoded: usize)
 }
 
 // ROOMS of a call that is to write these bytes, behind a text.
+// A closure has to be callable, which every one is that has no `requires` of its own.
 #[tactic(auto, using(crate::proofs::Kept::kept))]
 pub fn tried<F: Fn(&mut [u8]) -> Result<usize, Error>>(
     call: &F,

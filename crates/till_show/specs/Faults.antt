@@ -1,6 +1,8 @@
 -- What is said of a line that is no command, as the programs' page has it.
-use Rattle.std.specs.Prelude.{ℕ, List}
+use Rattle.std.specs.Prelude.{ℕ, ◌≡◌, List}
 use Rattle.codec.specs.Ascii.{ascii}
+use Rattle.text_put.specs.Put.{complaint_texts}
+use Rattle.text_put.specs.PutLaws.{Wrote}
 use Rattle.till_read.specs.declared.Fault.{Fault}
 use Rattle.till_read.specs.declared.Fault.TheVariants.{NotHex, UnknownCommand, MissingWord, TooManyWords, NotNumber, NotType, NotMarks, TooLong}
 
@@ -13,3 +15,8 @@ fault_text NotNumber = ascii "not a number"
 fault_text NotType = ascii "not a type"
 fault_text NotMarks = ascii "not marks"
 fault_text TooLong = ascii "too long"
+
+-- the text of a fault that is known
+pub fault_as : (f g : Fault) (number pos : ℕ) (out : List ℕ) (r : ℕ) (w : List ℕ) → f ≡ g
+    → Wrote (complaint_texts number (fault_text g)) pos out r w → Wrote (complaint_texts number (fault_text f)) pos out r w
+fault_as f g number pos out r w e h = rw e h
