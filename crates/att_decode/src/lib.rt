@@ -12,6 +12,8 @@ ghost use Rattle.ble_uuid.specs.Uuids.{uuid_of};
 ghost use Rattle.att.specs.Typed.{request, response, row_decoded, decoded, uuid_in};
 ghost use Rattle.primitives.specs.Numbers.{number_at};
 ghost use Rattle.att.specs.declared.AttReq.TheVariants as req;
+ghost use Rattle.cursor.specs.Reading.{rest};
+ghost use Rattle.att_rows.specs.Fields.{after, pairs_in};
 ghost use Rattle.att_decode.specs.Tests.{answered, carried, field, field_length};
 
 use att::{
@@ -21,7 +23,7 @@ use att::{
     ATT_PREPARE_WRITE_REQ, ATT_READ_BLOB_REQ, ATT_READ_BLOB_RSP, ATT_READ_BY_GROUP_TYPE_REQ,
     ATT_READ_BY_GROUP_TYPE_RSP, ATT_READ_BY_TYPE_REQ, ATT_READ_BY_TYPE_RSP, ATT_READ_MULTIPLE_REQ,
     ATT_READ_REQ, ATT_READ_RSP, ATT_WRITE_CMD, ATT_WRITE_REQ, ATT_WRITE_RSP, Att, AttCfm, AttReq,
-    AttRsp, Span,
+    AttRsp, FindInformationUuidFormat, Span,
 };
 use att_rows::{
     error_rsp, exchange_mtu_req, exchange_mtu_rsp, execute_write_req, field,
@@ -34,6 +36,7 @@ use ble_uuid::Uuid;
 use codec::Error;
 use cursor::remaining;
 use cursor_read::ReadCursor;
+use primitives::Primitive;
 
 // What bytes decode to; what is no packet is refused with InvalidValue.
 #[tactic(auto, using(crate::proofs::Rows::decoded_nil))]
@@ -48,6 +51,7 @@ pub fn decode(src: &[u8]) -> Result<Att, Error>
 
 // The bytes of a data field, as a part of the received bytes. A range that does not lie within them gives
 // an empty part; `data_len` then has the refusal.
+// Kept: two functions and no Result of the part: outsiders call both (`field`, `field_length`).
 pub fn data(src: &[u8], d: Span) -> &[u8]
     ensures { result.now ≡ field d src.now }
 {
@@ -76,7 +80,7 @@ fn dispatch(op: u8, p: &[u8]) -> Result<Att, Error>
         ATT_EXCHANGE_MTU_RSP => packet(p, 2, Att::from(exchange_mtu_rsp(p))),
         ATT_FIND_INFORMATION_REQ => packet(p, 4, Att::from(find_information_req(p))),
         ATT_FIND_INFORMATION_RSP => {
-            let rsp = find_information_rsp(p, remaining(1, p))?;
+            let rsp = pairs_of(p)?;
             packet(p, 1, Att::from(rsp))
         }
         ATT_FIND_BY_TYPE_VALUE_REQ => {
@@ -149,12 +153,20 @@ fn items_of(p: &[u8], rsp: AttRsp) -> Result<Att, Error>
     packet(p, 1, Att::from(rsp))
 }
 
+// 05: behind a first byte that is a format the pairs.
+fn pairs_of(p: &[u8]) -> Result<AttRsp, Error>
+    ensures { result ≡ pairs_in (number_at 1 0 p.now) (after 2 (rest 1 p.now)) }
+{
+    let format = FindInformationUuidFormat::try_from(u8::at(p, 0))?;
+    Ok(find_information_rsp(format, remaining(1, p)))
+}
+
 // 08 and 10: behind start and end a UUID of 2 or 16 bytes.
 fn uuid_of(p: &[u8]) -> Result<Uuid, Error>
     ensures { result ≡ carried p.now }
 {
     match p.len() {
-        6 | 20 => ble_uuid::from_slice(&p[4..]),
+        6 | 20 => Uuid::try_from(&p[4..]),
         _ => Err(Error::InvalidValue),
     }
 }

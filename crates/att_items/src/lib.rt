@@ -47,6 +47,8 @@ pub struct HandleValue {
 }
 
 // FindByTypeValueIter: handle and end.
+// Kept: the next item at a position that the caller holds, and no `impl Iterator`: the walk theorems
+// (`walk_gives_the_items`) are of it.
 pub fn find_by_type_value_next(att: Att, src: &[u8], pos: usize) -> Option<HandlePair>
     ensures { result ≡ pair_of (item_shown 0x07 0x07 (show_att att) src.now pos) src.now }
 {
@@ -77,6 +79,7 @@ pub fn read_by_type_next(att: Att, src: &[u8], pos: usize) -> Option<HandleValue
 }
 
 // The rest of that item as a part of the received bytes; at the end an empty part.
+// Kept: the rest as a part beside its range in `HandleValue`: outsiders call both.
 pub fn read_by_type_rest(att: Att, src: &[u8], pos: usize) -> &[u8]
     ensures { result.now ≡ rest_of (item_shown 0x09 0x11 (show_att att) src.now pos) src.now }
 {
@@ -99,7 +102,8 @@ fn value_item(att: Att, src: &[u8], pos: usize) -> Option<Found>
 }
 
 // The item of a packet of opcode `a` or `b`. A packet that encoding would refuse with InvalidValue has
-// no size, and no item. Kept: opcodes and no patterns of packets, so that one test serves the three iterators.
+// no size, and no item.
+// Kept: opcodes and no patterns of packets: one test serves the three iterators (no plainer).
 fn item(att: Att, a: u8, b: u8, src: &[u8], pos: usize) -> Option<Found>
     ensures { result ≡ item_shown a b (show_att att) src.now pos }
 {
@@ -159,7 +163,7 @@ fn information_at(i: &[u8], next: usize) -> Option<HandleUuid>
     ensures { result ≡ Some (information_at i.now next) }
 {
     let (handle, behind) = cursor::read::<u16>(0, i).ok()?;
-    let uuid = ble_uuid::from_slice(cursor::remaining(behind, i)).ok()?;
+    let uuid = Uuid::try_from(cursor::remaining(behind, i)).ok()?;
     Some(HandleUuid { handle, uuid, next })
 }
 

@@ -11,15 +11,15 @@ ghost use Rattle.att.specs.Typed.{code};
 ghost use Rattle.att.specs.declared.AttReq.TheVariants as req;
 ghost use Rattle.att.specs.declared.AttRsp.TheVariants as rsp;
 ghost use Rattle.att.specs.declared.AttUns.TheVariants as uns;
-ghost use Rattle.att_rows.specs.Fields.{word, after, valued, pairs_in};
+ghost use Rattle.att_rows.specs.Fields.{word, after, valued};
 
 use att::{AttCmd, AttReq, AttRsp, AttUns, FindInformationUuidFormat, Span};
 use att_error::AttErrorCode;
 use ble_uuid::Uuid;
-use codec::Error;
 use primitives::Primitive;
 
 // The reader of a data field: its bytes as a part of the received bytes, in which they start at `at`.
+// Kept: a reader for each row of document 01's table, each making a case of its own: no plainer in one.
 pub fn field(at: usize, data: &[u8]) -> Span
     ensures { result ≡ after at «data».now }
 {
@@ -60,14 +60,13 @@ pub fn find_information_req(p: &[u8]) -> AttReq
     }
 }
 
-pub fn find_information_rsp(p: &[u8], items: &[u8]) -> Result<AttRsp, Error>
-    ensures { result ≡ pairs_in (number_at 1 0 p.now) (after 2 items.now) }
+pub fn find_information_rsp(format: FindInformationUuidFormat, items: &[u8]) -> AttRsp
+    ensures { result ≡ rsp.FindInformation format (after 2 items.now) }
 {
-    let format = FindInformationUuidFormat::try_from(u8::at(p, 0))?;
-    Ok(AttRsp::FindInformation {
+    AttRsp::FindInformation {
         format,
         items: field(2, items),
-    })
+    }
 }
 
 pub fn find_by_type_value_req(p: &[u8], value: &[u8]) -> AttReq

@@ -29,6 +29,16 @@ pub fn strict(src: &[u8]) -> bool
     }
 }
 
+// The length of a pair of 05 by its format; a format that is none has no pairs.
+pub fn pair_len(format: u8) -> usize
+    ensures { result ≡ by_format (format ∷ []) }
+{
+    match FindInformationUuidFormat::try_from(format) {
+        Ok(format) => format.pair_len(),
+        Err(_) => 0,
+    }
+}
+
 // The length of an item of 09 and 11.
 pub fn item_len(p: &[u8]) -> usize
     ensures { result ≡ number_at 1 0 p.now }
@@ -90,10 +100,7 @@ fn handles(p: &[u8]) -> bool
 fn strict_pairs(p: &[u8]) -> bool
     ensures { result ≡ exact (Items by_format 2) (number_at 1 0 p.now ∷ []) 1 p.now }
 {
-    match FindInformationUuidFormat::try_from(u8::at(p, 0)) {
-        Ok(format) => whole_items(p, 1, format.pair_len(), 2),
-        Err(_) => false,
-    }
+    whole_items(p, 1, pair_len(u8::at(p, 0)), 2)
 }
 
 fn strict_items(p: &[u8], least: usize) -> bool

@@ -35,6 +35,7 @@ pub fn write_text(code: u8, out: &mut [u8]) -> Result<usize, Error>
 }
 
 // The text of a code that has one of its own.
+// Kept: a constant's `.value` is no pattern, and `write_text` takes any byte: no plainer with names.
 #[tactic(auto, unfolding(att_error::specs::Texts::texts))]
 fn own_text(code: u8) -> Option<&'static [u8]>
     ensures { option_copied result ≡ own_text code }

@@ -1,5 +1,5 @@
 -- Laws of UUIDs. The array of a UUID that code holds is as long as its form is wide; here that is the side condition `Whole`.
-use Rattle.std.specs.Prelude.{ℕ, ◌≤◌, ◌≡◌, refl, true, List, length, take, drop, Ok, Err}
+use Rattle.std.specs.Prelude.{ℕ, ◌≤◌, ◌≡◌, refl, true, List, ◌++◌, length, take, drop, Ok, Err}
 use Rattle.std.proofs.Common.{sym, ap, ◌∙◌, arith, le-leb}
 use Rattle.std.proofs.Math.Seq.{take-append_seam}
 use Rattle.std.specs.Cmp.{IsEquivalence, IsPartialEquivalence, equiv}
@@ -7,12 +7,14 @@ use Rattle.codec.specs.Buffer.{laid}
 use Rattle.codec.specs.Cases.{None, same}
 use Rattle.codec.specs.CasesLaws.{missing, same_refl, same_equal, same_is}
 use Rattle.codec.specs.declared.Error.TheVariants.{InvalidValue}
-use Rattle.ble_uuid.specs.Uuids.{width_of, own, on_air, equal_types, equal, zeros, padded, raw_of, lengths, sliced, uuid_of}
+use Rattle.ble_uuid.specs.Uuids.{width_of, own, on_air, equal_types, equal, zeros, padded, raw_of, lengths, sliced, uuid_of, base, att_bytes}
 use Rattle.ble_uuid.specs.declared.Uuid.{Uuid}
 use Rattle.ble_uuid.specs.declared.Uuid.TheVariants.{Uuid16, Uuid32, Uuid128}
 
 abbrev pub Whole : Uuid → Type 0
-Whole u = length (own u) ≡ width_of u
+Whole (Uuid16 b) = length b ≡ 2
+Whole (Uuid32 b) = length b ≡ 4
+Whole (Uuid128 b) = length b ≡ 16
 
 pub width_most : (u : Uuid) → width_of u ≤ 16
 width_most (Uuid16 b) = omega arith
@@ -20,10 +22,12 @@ width_most (Uuid32 b) = omega arith
 width_most (Uuid128 b) = omega arith
 
 pub own_length : (u : Uuid) → Whole u → length (own u) ≡ width_of u
-own_length u e = e
+own_length (Uuid16 b) e = e
+own_length (Uuid32 b) e = e
+own_length (Uuid128 b) e = e
 
 pub own_most : (u : Uuid) → Whole u → length (own u) ≤ 16
-own_most u e = omega (arith, width_most u)
+own_most u e = omega (arith, own_length u e, width_most u)
 
 -- sixteen bytes, of which the first are those given
 pub padded_own : (l : List ℕ) → take (length l) (padded l) ≡ l
@@ -66,6 +70,10 @@ pub own_sliced : (u : Uuid) (l : List ℕ) → length l ≡ width_of u → own (
 own_sliced (Uuid16 b) l e = own_short l e
 own_sliced (Uuid32 b) l e = own_wide l e
 own_sliced (Uuid128 b) l e = own_long l e
+
+-- a 32-bit UUID on the base
+pub att_wide : (b v : List ℕ) → length v ≡ 4 → b ≡ padded (base ++ v) → record { bytes = b; len = 16 } ≡ raw_of (att_bytes (Uuid32 v))
+att_wide b v h f = raw_is b (base ++ v) 16 f (omega (arith, h))
 
 -- only a 32-bit UUID could be carried in other bytes than its own
 pub on_air_own : (u : Uuid) → ((b : List ℕ) → u ≡ Uuid32 b → ⊥) → on_air u ≡ own u

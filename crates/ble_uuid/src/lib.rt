@@ -32,7 +32,7 @@ const BASE: [u8; 16] = [
 ];
 
 // Equality: form and the form's own bytes.
-// Kept: a derive would not go through `equal_types`, the one test that types' bytes are asked too.
+// Kept: what may not change: `equal` is `equal_types` of the own bytes, the test that types' bytes are asked too.
 impl PartialEq for Uuid {
     ghost eq = { equal };
 
@@ -89,6 +89,7 @@ impl TryFrom<&[u8]> for Uuid {
 }
 
 impl Uuid {
+    // Kept beside From: the names of uuid.rs, which outsiders call.
     pub fn new_short(val: u16) -> Self
         ensures { result ≡ short val }
     {
@@ -123,6 +124,7 @@ impl Uuid {
     }
 
     // The bytes that a packet carries.
+    // Kept beside `as_raw`: what a packet carries is one definition of its own, which request W-204 moves.
     #[tactic(auto, unfolding(crate::specs::Uuids::on_air))]
     pub fn on_air(&self) -> &[u8]
         ensures { result.now ≡ on_air self.now }

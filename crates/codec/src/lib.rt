@@ -66,6 +66,7 @@ impl From<Refusal> for u8 {
 
 impl Refusal {
     // Its name, as document 01's table has it.
+    // Kept: no `Display`: `write_name` promises that a buffer without room stays.
     pub fn name(self) -> &'static [u8]
         ensures { result.now ≡ name_of self }
     {

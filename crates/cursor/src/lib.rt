@@ -71,6 +71,8 @@ pub fn read<T: Primitive>(pos: usize, data: &[u8]) -> Result<(T, usize), Error>
     }
 }
 
+// Kept: what may not change: `slice`, `consume` and `remaining` cannot fail, and `slice_answer` and `given`
+// say which part was refused; `ReadCursor` has the two as one Result.
 pub fn slice(pos: usize, data: &[u8], n: usize) -> &[u8]
     ensures { result.now ≡ sliced pos «data».now n }
 {

@@ -1,6 +1,6 @@
-// cursor.rs's ReadCursor: the received bytes and the position in them, kept together. Each method takes the
-// struct apart and calls the function of the crate cursor that has its name. A read moves the cursor behind
-// what it read; on a refusal the cursor stands where it was.
+// cursor.rs's ReadCursor: the received bytes and the position in them, kept together. The methods go by
+// the functions of the crate cursor. A read moves the cursor behind what it read; on a refusal the cursor
+// stands where it was.
 //
 // A port of src/cursor.rs of trouble-host 0.8.0, which was changed: see NOTICE.
 #![tactic(auto)]

@@ -1,5 +1,5 @@
-// cursor.rs: the writing cursor. Its new, reset, len and available are the position's, in the crate cursor.
-// Where a part is the answer, a refusal lends the empty part, and `cursor::given` says which it was.
+// cursor.rs: the writing cursor, as functions on a position and the lent buffer, and as a struct that keeps the
+// two together, with thin methods. Where a part is the answer, a refusal lends the empty part, and `cursor::given` says which it was.
 //
 // A port of src/cursor.rs of trouble-host 0.8.0, which was changed: see NOTICE.
 #![tactic(auto)]
@@ -119,6 +119,8 @@ pub fn commit(pos: usize, data: &[u8], n: usize) -> Result<usize, Error>
     cursor::forward(pos, data.len(), n)
 }
 
+// Kept: `split_first`, `split_second`, `write_buf` and `fill` are functions and no methods, since lending a part
+// of the field's buffer out of `&mut self` gets no proof (tried).
 pub fn split_first(pos: usize, data: &mut [u8], n: usize) -> &mut [u8]
     ensures { result.now ≡ split_first pos «data».old n }
 {

@@ -8,7 +8,7 @@ ghost use Rattle.std.specs.Prelude.{◌≡◌};
 ghost use Rattle.text_print.specs.Lines.{Puts};
 ghost use Rattle.explain_items.specs.Items.{informations, ranges, values, kind_of, next_in, item_texts, items_texts};
 
-use att::Att;
+use att::{ATT_FIND_BY_TYPE_VALUE_RSP, ATT_FIND_INFORMATION_RSP, Att};
 use att_items::{HandlePair, HandleUuid, HandleValue};
 use text_print::Line;
 
@@ -51,8 +51,8 @@ fn item(op: u8, att: Att, src: &[u8], line: &mut Line<'_>, pos: usize) -> Option
     ensures line_after { Puts (item_texts (kind_of op) att src.now pos) line.old line.new }
 {
     match op {
-        0x05 => information(att, src, line, pos),
-        0x07 => range(att, src, line, pos),
+        ATT_FIND_INFORMATION_RSP => information(att, src, line, pos),
+        ATT_FIND_BY_TYPE_VALUE_RSP => range(att, src, line, pos),
         _ => value(att, src, line, pos),
     }
 }

@@ -7,7 +7,10 @@
 ghost use Rattle.text_print.specs.Lines.{Puts};
 ghost use Rattle.explain_server.specs.Servers.{meaning_texts, error_texts, response_texts, unsolicited_texts, server_texts};
 
-use att::{Att, AttRsp, AttServer, AttUns};
+use att::{
+    ATT_FIND_BY_TYPE_VALUE_RSP, ATT_FIND_INFORMATION_RSP, ATT_READ_BY_GROUP_TYPE_RSP,
+    ATT_READ_BY_TYPE_RSP, Att, AttRsp, AttServer, AttUns,
+};
 use att_error::AttErrorCode;
 use text_print::Line;
 
@@ -40,11 +43,11 @@ fn response(r: AttRsp, att: Att, src: &[u8], line: &mut Line<'_>)
         AttRsp::ExchangeMtu { mtu } => text_put::word(line, b"ExchangeMtu mtu=", mtu),
         AttRsp::FindByTypeValue { .. } => {
             line.text(b"FindByTypeValue");
-            explain_items::items(0x07, att, src, line);
+            explain_items::items(ATT_FIND_BY_TYPE_VALUE_RSP, att, src, line);
         }
         AttRsp::FindInformation { format, .. } => {
             text_put::byte(line, b"FindInformation format=", u8::from(format));
-            explain_items::items(0x05, att, src, line);
+            explain_items::items(ATT_FIND_INFORMATION_RSP, att, src, line);
         }
         AttRsp::Error {
             request,
@@ -52,12 +55,12 @@ fn response(r: AttRsp, att: Att, src: &[u8], line: &mut Line<'_>)
             code,
         } => error(line, request, handle, code),
         AttRsp::ReadByType { item_len, .. } => {
-            text_put::count(line, b"ReadByType item_len=", item_len as u64);
-            explain_items::items(0x09, att, src, line);
+            text_put::count(line, b"ReadByType item_len=", u64::from(item_len));
+            explain_items::items(ATT_READ_BY_TYPE_RSP, att, src, line);
         }
         AttRsp::ReadByGroupType { item_len, .. } => {
-            text_put::count(line, b"ReadByGroupType item_len=", item_len as u64);
-            explain_items::items(0x11, att, src, line);
+            text_put::count(line, b"ReadByGroupType item_len=", u64::from(item_len));
+            explain_items::items(ATT_READ_BY_GROUP_TYPE_RSP, att, src, line);
         }
         AttRsp::Read { data } => explain_field::part(line, b"Read data=", src, data),
         AttRsp::ReadBlob { data } => explain_field::part(line, b"ReadBlob data=", src, data),

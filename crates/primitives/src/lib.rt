@@ -99,6 +99,7 @@ impl Primitive for u32 {
 
     const SIZE: usize = 4;
 
+    // Kept: by halves, as the law `number_halves` has it; the edit halves_swapped is of them.
     fn at(src: &[u8], at: usize) -> u32 {
         if src.len() <= at {
             return 0;

@@ -42,6 +42,7 @@ pub fn serve(
 
 // What a packet asks for takes place: a store, the end of an exchange, or nothing. A refused store leaves
 // the table as it was.
+// Kept: no `Lent` here, since the live bytes are lent for change: no plainer.
 fn change(
     said: Replied,
     table: Table,

@@ -40,6 +40,7 @@ pub enum Head {
 }
 
 // An item behind those taken so far, if it is of their length and fits into the room; else the list ends.
+// Kept: the state goes in and comes back, as `taken` and `failing` have it.
 pub fn append(head: Head, tail: &[u8], room: u8, state: Progress, items: &mut [u8]) -> Progress
     ensures { taken room (head_of head ++ tail.now) state items.old ≡ (result, items.new) }
 {
@@ -100,11 +101,11 @@ fn spot_for(state: Progress, len: usize, room: u8) -> Option<usize>
     ensures { result ≡ spot_for room len state }
 {
     match state {
-        Progress::Seeking => fit(0, len, room as usize),
-        Progress::Taking(list) if len == list.item_len as usize => fit(
+        Progress::Seeking => fit(0, len, usize::from(room)),
+        Progress::Taking(list) if len == usize::from(list.item_len) => fit(
             list.used,
             len,
-            room as usize,
+            usize::from(room),
         ),
         _ => None,
     }
@@ -115,9 +116,10 @@ fn fit(at: usize, len: usize, room: usize) -> Option<usize>
     ensures { result ≡ fit_at room len at }
 {
     if at <= room && len <= room - at {
-        return Some(at);
+        Some(at)
+    } else {
+        None
     }
-    None
 }
 
 fn head_len(head: Head) -> usize

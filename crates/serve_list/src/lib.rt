@@ -169,7 +169,8 @@ fn format(item_len: u8) -> FindInformationUuidFormat
     ensures { result ≡ format_for item_len }
 {
     if item_len == 4 {
-        return FindInformationUuidFormat::Uuid16;
+        FindInformationUuidFormat::Uuid16
+    } else {
+        FindInformationUuidFormat::Uuid128
     }
-    FindInformationUuidFormat::Uuid128
 }

@@ -28,9 +28,10 @@ pub fn pair(
         && serve_record::may_read(r, lent.link.encrypted).is_ok()
         && serve_record::holds(r.place, lent.fixed, lent.live, value)
     {
-        return Some(Ok(Head::Range(r.handle, end_in(lent.table, kind, r.handle))));
+        Some(Ok(Head::Range(r.handle, end_in(lent.table, kind, r.handle))))
+    } else {
+        None
     }
-    None
 }
 
 // 08
@@ -69,7 +70,8 @@ fn end_in(table: &Table, kind: &[u8], handle: u16) -> u16
     ensures { result ≡ end_of (outlines_of table.now) kind.now handle }
 {
     if serve_groups::is_group(kind) {
-        return serve_groups::group_end(table, handle);
+        serve_groups::group_end(table, handle)
+    } else {
+        handle
     }
-    handle
 }

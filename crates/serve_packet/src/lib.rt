@@ -60,7 +60,7 @@ fn tested(lent: Lent<'_>, packet: &[u8], room: usize) -> Result<(), Refusal>
     if !serve_link::sound(lent.link) {
         return Err(Refusal::BadLink);
     }
-    if room < lent.link.mtu as usize {
+    if room < usize::from(lent.link.mtu) {
         return Err(Refusal::InsufficientSpace);
     }
     if packet.is_empty() {
@@ -70,6 +70,7 @@ fn tested(lent: Lent<'_>, packet: &[u8], room: usize) -> Result<(), Refusal>
 }
 
 // "No answer and no change: odd opcodes, 1E, and opcodes with bit 40 set", but for 52.
+// Kept: what is known of link and packet as premises, and no type for them: the theorems name `Link`.
 fn reply(lent: Lent<'_>, packet: &[u8], out: &mut [u8]) -> Replied
     requires link_value { link_ok lent.link ≡ true }
     requires in_bounds { 23 ≤ length out.old }
@@ -107,13 +108,8 @@ fn command(op: u8, lent: Lent<'_>, packet: &[u8]) -> Pending
     requires { op ≡ first packet.now }
     ensures { meant_by packet.now result ≡ command_to lent.entry.table.now lent.entry.link packet.now }
 {
-    if op != ATT_WRITE_CMD {
-        return Pending::Nothing;
-    }
-    if !att_strict::strict(packet) {
-        return Pending::Nothing;
-    }
-    if (lent.link.mtu as usize) < packet.len() {
+    let most = usize::from(lent.link.mtu);
+    if op != ATT_WRITE_CMD || !att_strict::strict(packet) || most < packet.len() {
         return Pending::Nothing;
     }
     match att_decode::decode(packet) {
@@ -147,7 +143,7 @@ fn request(op: u8, lent: Lent<'_>, packet: &[u8], out: &mut [u8]) -> Said
     ensures out_after { out.new
         ≡ out_of (request_to (views (lent_state lent.entry)) lent.entry.link packet.now) op out.old }
 {
-    if (lent.link.mtu as usize) < packet.len() {
+    if usize::from(lent.link.mtu) < packet.len() {
         return serve_request::refuse(op, AttErrorCode::INVALID_PDU, out);
     }
     if !served(op) {

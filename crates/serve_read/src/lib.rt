@@ -44,7 +44,7 @@ pub fn read_blob(lent: Lent<'_>, handle: u16, offset: u16, out: &mut [u8]) -> Wr
         Err(code) => serve_tell::error(ATT_READ_BLOB_REQ, handle, code, out),
         Ok(()) => {
             let value = table_records::value_at(*lent.table, handle, lent.fixed, lent.live);
-            let at = offset as usize;
+            let at = usize::from(offset);
             if value.len() < at {
                 return serve_tell::error(
                     ATT_READ_BLOB_REQ,
@@ -64,5 +64,5 @@ pub fn read_blob(lent: Lent<'_>, handle: u16, offset: u16, out: &mut [u8]) -> Wr
 fn cut(n: usize, mtu: u16) -> usize
     ensures { result ≡ min (mtu - 1) n }
 {
-    (mtu.saturating_sub(1) as usize).min(n)
+    usize::from(mtu.saturating_sub(1)).min(n)
 }

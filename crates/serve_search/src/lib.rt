@@ -29,6 +29,8 @@ pub enum Ask {
 
 // What is asked, of the attributes with handles from `from` to `to`: `kind` has the own bytes of the type
 // asked for (06, 08, 10), `value` the value (06).
+// Kept: one struct and no fields in `Ask`, since `asked` names kind and value of every request; and a match on
+// `Ask` in six places, no closures: four requests and no more, each match as its definition has it (no plainer).
 #[derive(Clone, Copy)]
 pub struct Query<'a> {
     pub ask: Ask,
@@ -39,6 +41,7 @@ pub struct Query<'a> {
 }
 
 // What was found. The items stand one after the other in the first `used` bytes, and 00 behind them.
+// Kept: with no heap the items stand in an array with their length beside.
 #[derive(Clone, Copy)]
 pub struct Listing {
     pub found: Option<Result<Listed, Failed>>,
@@ -61,6 +64,8 @@ pub fn search(query: Query<'_>, lent: Lent<'_>) -> Listing
 }
 
 // The records in order, until the list ends.
+// Kept: the two bounds of the MTU, and no type for a sound link: it would stand beside `Link`, which the
+// theorems name; `search` tests it once.
 fn walk(query: Query<'_>, lent: Lent<'_>, items: &mut [u8]) -> Progress
     requires le_mtu { 23 ≤ lent.link.mtu }
     requires mtu_bound { lent.link.mtu ≤ 247 }
@@ -122,7 +127,7 @@ fn tail<'a>(ask: Ask, r: &'a Record, lent: Lent<'a>) -> &'a [u8]
     requires { 23 ≤ lent.link.mtu }
     ensures { result.now ≡ tail_for ask (lent_state lent.entry) r.now }
 {
-    let mtu = lent.link.mtu as usize;
+    let mtu = usize::from(lent.link.mtu);
     match ask {
         Ask::Info => r.kind.as_raw(),
         Ask::Pair => &[],

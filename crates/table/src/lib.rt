@@ -69,6 +69,8 @@ pub fn add(t: Table, a: Addition, fixed: &[u8], live: &[u8]) -> Result<Table, Re
 
 // An attribute's value, as a part of the fixed or of the live bytes. It is empty on a refusal, which
 // `lookup_refusal` tells.
+// Kept: two functions and no Result of the part: outsiders call both, and `looked_up` and `lookup_refusal`
+// say one each (what may not change).
 #[tactic(auto, unfolding(attributes::specs::Ledger::looked_up))]
 pub fn lookup<'a>(t: Table, handle: u16, fixed: &'a [u8], live: &'a [u8]) -> &'a [u8]
     ensures { result.now ≡ looked_up t handle fixed.now live.now }

@@ -18,6 +18,7 @@ pub struct Walked {
 }
 
 // What a walk over a sound table finds out; there is none over one that is not sound.
+// Kept: two lengths and no struct: `sound_table` and `table::sound_for` take them singly (what may not change).
 #[tactic(auto, using(crate::proofs::WalkLaws::walked_by))]
 pub fn walk(t: Table, fixed_len: usize, live_len: usize) -> Option<Walked>
     ensures { result ≡ walked_table t fixed_len live_len }

@@ -36,6 +36,7 @@ pub fn complain(to: Stdout, number: u64, what: &[u8]) -> io::Result<usize>
 
 // Where the reading of standard input is: in the line that is being read, and in the bytes that the
 // lent buffer holds of the last read; and whether the input has ended.
+// Kept: places in the program's buffer, since there is no heap.
 #[derive(Clone, Copy)]
 pub struct Input {
     pub lines: Lines,

@@ -9,6 +9,7 @@ ghost use Rattle.text_decimal.specs.Decimal.{decimal_text};
 use codec::Error;
 
 // The digits of a number, at the start of the lent bytes; the answer is how many there are.
+// Kept: the buffer and how many digits it holds, as the kit's `io::decimal` and its clauses have it.
 pub fn spell(n: u64, out: &mut [u8; 20]) -> usize
     ensures prefix_len { IsPrefixLen result out.new }
     ensures out_after { take result out.new ≡ decimal_text n }

@@ -71,6 +71,7 @@ fn is_dash(text: &[u8]) -> bool
 }
 
 // The bytes of the digits of a text at the start of out.
+// Kept: by a place counted on: what is written through `iter_mut` is not known afterwards (tried).
 #[tactic(auto, using(crate::specs::HexLaws::none_left, crate::specs::HexLaws::odd_one))]
 fn fill(text: &[u8], passed: &[u8], out: &mut [u8])
     requires text_value { below 16 (values (without passed.now text.now)) ≡ true }
@@ -189,5 +190,5 @@ pub fn read_type(word: &[u8]) -> Result<Uuid, Error>
         return Err(Error::InvalidValue);
     }
     bytes[..n].reverse();
-    ble_uuid::from_slice(&bytes[..n])
+    Uuid::try_from(&bytes[..n])
 }

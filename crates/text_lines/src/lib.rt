@@ -8,6 +8,8 @@ ghost use Rattle.text_lines.specs.Words.{trimmed, front, behind, word_of, member
 
 // The line that is being read: how many of its characters the lent buffer holds, whether there were
 // more than it has room for, and the line's number.
+// Kept: a flag and no enum, since a line that is too long still holds its first bytes; the functions take the
+// lines and hand them back, as `step_of` and `last_of` have it; the buffer is the program's: there is no heap.
 #[derive(Clone, Copy)]
 pub struct Lines {
     pub len: usize,

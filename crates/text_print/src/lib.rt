@@ -59,6 +59,7 @@ impl<'a> Line<'a> {
     }
 
     // A number of one byte, as 2 digits.
+    // Kept: `hex2` and `hex4` are a line each, and `to_be_bytes` is no trait's: no plainer as one.
     pub fn hex2(&mut self, v: u8)
         ensures { Puts (capitals (v ∷ []) ∷ []) self.old self.new }
     {
@@ -114,6 +115,7 @@ fn lay(out: &mut [u8], pos: usize, bytes: &[u8]) -> usize
     pos + bytes.len()
 }
 
+// Kept: `char::from_digit` gives an Option of a small letter: no plainer.
 #[tactic(auto, using(crate::specs::PrintLaws::glyph_low, crate::specs::PrintLaws::glyph_high))]
 fn glyph(d: u8) -> u8
     requires { d < 16 }
@@ -133,6 +135,7 @@ fn pair(out: &mut [u8], at: usize, b: u8)
 }
 
 // The digits of bytes at a position, and the position behind them.
+// Kept: by a place counted on: what is written through `iter_mut` is not known afterwards (tried).
 #[tactic(auto, using(crate::specs::PrintLaws::full, crate::specs::PrintLaws::capitals_length, crate::specs::PrintLaws::nothing_printed, crate::specs::PrintLaws::printed_more, crate::specs::PrintLaws::all_printed))]
 fn lay_digits(out: &mut [u8], pos: usize, bytes: &[u8]) -> usize
     ensures value { result ≡ placed pos (capitals bytes.now) out.old }

@@ -17,6 +17,7 @@ pub fn first(bytes: &[u8], n: usize) -> &[u8]
 }
 
 // A text and a number of one byte.
+// Kept: five names and no trait, since the name says the form: hexadecimal, decimal, HEX or TYPE (no plainer).
 #[tactic(auto, unfolding(text_print::specs::Lines::behind, text_print::specs::Lines::holding))]
 pub fn byte(line: &mut Line<'_>, name: &[u8], v: u8)
     ensures { Puts (byted name.now v) line.old line.new }

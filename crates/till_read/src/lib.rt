@@ -143,7 +143,7 @@ fn counted(line: &[u8], last: usize, behind: usize) -> Result<(), Fault>
     Ok(())
 }
 
-// The word with the number k as a number; as a number of up to `most`; as a handle; as a type.
+// A word as a number; as a number of up to `most`; as a handle; as a type.
 fn number(line: &[u8], k: usize) -> Result<u64, Fault>
     ensures { result ≡ number_at k line.now }
 {

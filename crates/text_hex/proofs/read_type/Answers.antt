@@ -34,4 +34,4 @@ returns c =
     let b = same_bytes c.args.word.now c.in_ok-n.n c.decode.new.out (sym c.in_ok-n.ensures.ok_part ∙ c.outline.ensures.value) (sym s ∙ c.decode.ensures.value) c.decode.ensures.out_after in
     let l : c.in_ok-n.n ≤ 16 = rw c.in_ok-n.ensures.ok_part at c.outline.ensures.at_most in
     let t = take_at c.reverse.new.self _ c.in_ok-n.n (omega (arith, c.reverse.ensures.len, length-take-le {A = ℕ})) in
-    c.from_slice.ensures ∙ ap sliced (t ∙ c.reverse.ensures.after ∙ b)
+    c.try_from.ensures ∙ ap sliced (t ∙ c.reverse.ensures.after ∙ b)
