@@ -1,17 +1,17 @@
 -- Laws of lines and words that the code's proofs do not cite: what a step, a word and a mark do at each kind of character.
-use Rattle.std.specs.Prelude.{ℕ, zero, suc, ◌+◌, ◌-◌, ◌≤◌, ◌<◌, ◌≡◌, refl, Bool, false, ◌||◌, List, [], ◌∷◌, ◌++◌, length, take, drop, get_or, set, eqb}
+use Rattle.std.specs.Prelude.{ℕ, zero, suc, ◌+◌, ◌-◌, ◌≤◌, ◌<◌, min, ◌≡◌, refl, Bool, false, ◌||◌, List, [], ◌∷◌, ◌++◌, length, take, drop, get_or, set, leb, eqb}
 use Rattle.std.proofs.Math.Path.{sym}
-use Rattle.std.proofs.Common.{ap, ◌∙◌, append-nil, append_assoc, arith, add-one, length-drop, drop_of_length-le, drop-cons, take-suc, get_or-drop}
+use Rattle.std.proofs.Common.{ap, ◌∙◌, append-nil, append_assoc, arith, add-one, length-drop, length-take, drop_of_length-le, drop-cons, take-suc, take_all, length-take-le, take-take, get_or-drop}
 use Rattle.std.proofs.Math.Bool.{true}
-use Rattle.std.proofs.Math.Seq.{set_out}
+use Rattle.std.proofs.Math.Seq.{take-length, set_out}
 use Rattle.std.proofs.Math.Dec.{ltb}
-use borrow.Author.Tests.{lt-ltb, le-ltb, eq-eqb, ne_eqb}
+use borrow.Author.Tests.{lt-ltb, le-ltb, le-leb, lt-leb, eq-eqb, ne_eqb, leb-true, leb-false}
 use Rattle.codec.specs.Cases.{pick}
-use Rattle.text_lines.specs.Lines.{blank, uncarriaged, silent, judged, end_of, step_of, held_after, last_of, reading_of}
+use Rattle.text_lines.specs.Lines.{blank, uncarriaged, silent, seen_of, judged, end_of, step_of, held_after, last_of, reading_of}
 use Rattle.text_lines.specs.Words.{trimmed, front, behind, word_of, member, each_once, marks_of}
 use Rattle.text_lines.specs.declared.Lines.{Lines}
 use Rattle.text_lines.specs.declared.Stepped.{Stepped}
-use Rattle.text_lines.specs.declared.Seen.TheVariants.{TooLong}
+use Rattle.text_lines.specs.declared.Seen.TheVariants.{Line, TooLong, Passed}
 
 -- a line's next character
 pub next_character : (l : List ℕ) (i : ℕ) → i < length l → drop i l ≡ get_or l i 0 ∷ drop (i + 1) l
@@ -177,6 +177,49 @@ unfolding marks_of
 marks_letters letters [] h = refl
 marks_letters letters (c ∷ []) h = rw (ne_eqb c 45 (h refl))
 marks_letters letters (c ∷ d ∷ cs) h = refl
+
+-- a line at its end: `held` of its characters stand in the buffer, and `n` of them are not the CR
+pub record Whole (lines : Lines) (buf : List ℕ) (n : ℕ) : Type 0 where
+  pub inside : n ≤ length buf
+  pub says : judged lines buf ≡ seen_of (length buf - 1) (take n buf)
+
+pub whole_line : (lines : Lines) (buf : List ℕ) (held n : ℕ) → lines.long ≡ false → held ≡ min lines.len (length buf)
+    → uncarriaged (take (held - 0) (drop 0 buf)) ≡ take n (take (held - 0) (drop 0 buf)) → n ≤ length (take (held - 0) (drop 0 buf)) → Whole lines buf n
+unfolding judged
+whole_line lines buf held n f m u s =
+    let z : held - 0 ≡ held = omega arith in
+    let h : n ≤ held = omega (arith, length-take (held - 0) (drop 0 buf)) in
+    let t : take lines.len buf ≡ take held buf = rw m (take_least lines.len buf) in
+    let v : uncarriaged (take held buf) ≡ take n (take held buf) = rw z at u in
+    record { inside = omega (arith, m); says = rw (f, t, v, take-take n held buf h) }
+  where
+    take_least : (k : ℕ) (l : List ℕ) → take k l ≡ take (min k (length l)) l
+    take_least k l = by (leb k (length l)) refl
+      where
+        by : (t : Bool) → leb k (length l) ≡ t → take k l ≡ take (min k (length l)) l
+        by true e = let m : min k (length l) ≡ k = omega (arith, leb-true k (length l) e) in rw m
+        by false e =
+            let m : min k (length l) ≡ length l = omega (arith, leb-false k (length l) e) in
+            rw (m, take-length l) (take_all k l (omega (arith, leb-false k (length l) e)))
+
+module _ (lines : Lines) (buf : List ℕ) (n : ℕ) (w : Whole lines buf n) where
+  count : length (take n buf) ≡ n
+  count = length-take-le n buf w.inside
+
+  pub whole_long : length buf ≤ n → 0 < n → TooLong ≡ judged lines buf
+  whole_long h k = rw (w.says, count, lt-leb n (length buf - 1) (omega arith))
+
+  pub whole_passed : n ≤ length buf - 1 → silent (take (n - 0) (drop 0 buf)) ≡ true → Passed ≡ judged lines buf
+  whole_passed h s =
+      let z : n - 0 ≡ n = omega arith in
+      let t : silent (take n buf) ≡ true = rw z at s in
+      rw (w.says, count, le-leb n (length buf - 1) h, t)
+
+  pub whole_kept : n ≤ length buf - 1 → silent (take (n - 0) (drop 0 buf)) ≡ false → Line n ≡ judged lines buf
+  whole_kept h s =
+      let z : n - 0 ≡ n = omega arith in
+      let t : silent (take n buf) ≡ false = rw z at s in
+      rw (w.says, count, le-leb n (length buf - 1) h, t)
 
 -- a line of more characters than there is room for
 pub long_line : (lines : Lines) (buf : List ℕ) → lines.long ≡ true → TooLong ≡ judged lines buf
