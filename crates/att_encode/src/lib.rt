@@ -83,6 +83,7 @@ fn sent_uuid(uuid: &Uuid) -> Option<&[u8]>
 
 // The opcode, the fields and what follows them, one behind the other from the start of a lent buffer. Room is
 // tested for all of them before the first is written.
+// Kept: places counted on by `?`: over WriteCursor the proof of where each field stands did not close (tried).
 fn write_packet(l: Layout, tail: &[u8], out: &mut [u8]) -> Result<usize, Error>
     requires head { l.len ≡ length (head_bytes l.opcode l.fields) }
     requires number { l.len + length tail.now < 2 ^ 64 }

@@ -15,6 +15,8 @@ use codec::Error;
 use primitives::Primitive;
 
 // Both cursors' new, reset, len and available.
+// Kept: position and bytes one by one, and `reset`, `consume`, `slice_answer` beside `new`, `slice`, `forward`:
+// the names of cursor.rs, which outsiders call; the structs are ReadCursor and WriteCursor.
 pub fn new() -> usize
     ensures { result ≡ 0 }
 {

@@ -106,6 +106,7 @@ impl<'d> WriteCursor<'d> {
 }
 
 // Moves the position back to npos; it never moves it on.
+// Kept beside the struct: outsiders call the functions (what may not change); the methods are thin over them.
 pub fn truncate(pos: usize, npos: usize) -> usize
     ensures { result ≡ truncated pos npos }
 {

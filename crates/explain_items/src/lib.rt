@@ -46,6 +46,7 @@ fn value(att: Att, src: &[u8], line: &mut Line<'_>, pos: usize) -> Option<usize>
 }
 
 // An item of the response with this opcode.
+// Kept: asked anew for each item, as `kind_of` of `items_texts` has it (no plainer).
 fn item(op: u8, att: Att, src: &[u8], line: &mut Line<'_>, pos: usize) -> Option<usize>
     ensures value { result ≡ next_in (kind_of op) att src.now pos }
     ensures line_after { Puts (item_texts (kind_of op) att src.now pos) line.old line.new }

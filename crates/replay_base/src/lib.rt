@@ -19,6 +19,7 @@ use primitives::Primitive;
 use text_print::Line;
 
 // The bytes of a HEX, at the start of a lent buffer; none where a word is no HEX or too long.
+// Kept: the buffer and a length, as the clauses `buf_after` and `held` have it.
 #[tactic(auto, using(crate::specs::BaseLaws::fits, crate::specs::BaseLaws::held))]
 pub fn bytes(word: &[u8], buf: &mut [u8]) -> usize
     ensures value { result ≡ result_unwrap_or (answered (hex_means word.now) (length buf.old)) 0 }

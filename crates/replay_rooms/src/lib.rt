@@ -19,6 +19,7 @@ fn all(bytes: &[u8], v: u8) -> bool
 }
 
 // Whether a call on bytes v refused with this number and wrote nothing.
+// Kept: a refusal by its number: `untouched_of` and the laws `other_number`, `this_number` compare numbers.
 fn untouched(w: Result<usize, Error>, number: u8, out: &[u8], v: u8) -> bool
     ensures { result ≡ untouched_of w number out.now v }
 {
@@ -58,6 +59,7 @@ fn refuses<F: Fn(&mut [u8]) -> Result<usize, Error>>(
     untouched(call(out), number, out, v)
 }
 
+// Kept beside `refuses`: a closure for the test would stand in each of four calls (no plainer).
 fn writes<F: Fn(&mut [u8]) -> Result<usize, Error>>(
     call: &F,
     full: &[u8],

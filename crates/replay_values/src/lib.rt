@@ -117,6 +117,7 @@ fn short(reply: &mut Line<'_>, u: Uuid)
 }
 
 // A UUID's own bytes, 00 behind them.
+// Kept: ble_uuid's own is private, and asks that sixteen bytes are enough (no plainer).
 fn own_raw(u: Uuid) -> Raw
     ensures { result ≡ raw_of (own u) }
 {

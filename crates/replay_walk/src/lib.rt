@@ -196,6 +196,7 @@ fn place(line: &mut Line<'_>, pos: usize, left: usize)
 }
 
 // The steps of a request, and where the cursor stands after each.
+// Kept: up to 1000 words: a proved loop has to end, and the oracle's requests have fewer (what may not change).
 fn walk<C: Walker>(cursor: &mut C, request: &[u8], line: &mut Line<'_>) {
     for k in 3..1000 {
         let word = text_lines::word(request, k);

@@ -89,6 +89,7 @@ fn byte(mut from: Stdin, input: &mut Input, buf: &mut [u8]) -> io::Result<Option
 //
 // What is read may be anything, so the contract has what holds of every read: the two buffers are as
 // long as before.
+// Kept: the reading goes in by value and comes back with the line: no plainer by `&mut`.
 pub fn next(
     from: Stdin,
     mut input: Input,

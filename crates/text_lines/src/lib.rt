@@ -181,6 +181,7 @@ fn split_word(line: &[u8]) -> (&[u8], &[u8])
 }
 
 // The word with the number k, counted from 0; empty where there are fewer words.
+// Kept: a step for each word passed, as `word_of` goes; `split` gives empty words (no plainer).
 #[tactic(auto, using(crate::proofs::Cuts::word_passed, crate::proofs::Cuts::word_here))]
 pub fn word(line: &[u8], k: usize) -> &[u8]
     ensures { result.now ≡ word_of k line.now }

@@ -12,6 +12,7 @@ use till_read::{Command, Fault};
 use till_state::Till;
 
 // What the commands work on: the till, the bytes of the two areas, and where the answers go.
+// Kept: arrays, and a till that knows how much of them is in use: there is no heap.
 #[derive(Drop)]
 struct Desk {
     to: Stdout,
@@ -21,6 +22,7 @@ struct Desk {
 }
 
 // A line of one word.
+// Kept: a buffer, a line and a call each, here and below: a closure and a const for the length would be as long.
 fn say(to: Stdout, word: &[u8]) -> io::Result<()> {
     let mut out = [0u8; 16];
     let mut line = Line::new(&mut out);

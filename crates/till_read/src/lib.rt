@@ -37,6 +37,8 @@ impl From<HexError> for Fault {
 
 // A command with its words read. Where it has a HEX, that stands at the start of the lent bytes, `len`
 // bytes long.
+// Kept: a length and no slice of the lent bytes: of bytes that are lent on the clause `bytes_after` could say
+// nothing (what may not change).
 #[derive(Clone, Copy)]
 pub enum Command {
     Fixed {

@@ -95,6 +95,7 @@ pub fn record_line(r: Record, value: &[u8], line: &mut Line<'_>)
     text_put::hex(line, b" value=", value);
 }
 
+// Kept: bytes for a line, and no `Display`, whose `fmt` promises nothing of the line.
 fn what(fault: Fault) -> &'static [u8]
     ensures { result.now ≡ fault_text fault }
 {
