@@ -91,10 +91,12 @@ module _ (text : List ℕ) where
   pub dash_other : (p : ℕ × Bor (List ℕ)) → Next (32 ∷ 9 ∷ []) text (Some p) → (p.0 ≡ 45 → ⊥) → is_dash (unblanked text) ≡ false
   dash_other p s n = rw (s.0) (dash_not p.0 (without (32 ∷ 9 ∷ []) p.1.now) n)
 
-  pub dash_more : (p q : ℕ × Bor (List ℕ)) → Next (32 ∷ 9 ∷ []) text (Some p) → Next (32 ∷ 9 ∷ []) p.1.now (Some q) → is_dash (unblanked text) ≡ false
+  pub dash_more : (p q : ℕ × Bor (List ℕ)) → Next (32 ∷ 9 ∷ []) text (Some p) → Next (32 ∷ 9 ∷ []) p.1.now (Some q)
+      → is_dash (unblanked text) ≡ false
   dash_more p q s t = rw (s.0, t.0)
 
-  pub dash_only : (p : ℕ × Bor (List ℕ)) → Next (32 ∷ 9 ∷ []) text (Some p) → Next (32 ∷ 9 ∷ []) p.1.now None → p.0 ≡ 45 → is_dash (unblanked text) ≡ true
+  pub dash_only : (p : ℕ × Bor (List ℕ)) → Next (32 ∷ 9 ∷ []) text (Some p) → Next (32 ∷ 9 ∷ []) p.1.now None → p.0 ≡ 45
+      → is_dash (unblanked text) ≡ true
   dash_only p s t e = rw (s.0, t) (dash_alone p.0 e)
 
 -- how many digits were counted, and that something else stood among them
@@ -183,7 +185,8 @@ taken_apart : (m : Option (List ℕ)) (k : ℕ) → answered m 16 ≡ Ok k → S
 taken_apart None k e = impossible (cc)
 taken_apart (Some bytes) k e = sized (leb (length bytes) 16) refl e
   where
-    sized : (t : Bool) → leb (length bytes) 16 ≡ t → ◌≡◌ {A = Result ℕ HexError} (pick t (Ok (length bytes)) (Err TooLong)) (Ok k) → (length bytes ≡ k) × (length bytes ≤ 16)
+    sized : (t : Bool) → leb (length bytes) 16 ≡ t → ◌≡◌ {A = Result ℕ HexError} (pick t (Ok (length bytes)) (Err TooLong)) (Ok k)
+        → (length bytes ≡ k) × (length bytes ≤ 16)
     sized true q r = (cc, leb-true (length bytes) 16 q)
     sized false q r = impossible (cc)
 
@@ -207,7 +210,8 @@ module _ (n : ℕ) (m : Option (List ℕ)) where
       no None p = refl
       no (Some bytes) p = by (leb (length bytes) 16) refl p
         where
-          by : (t : Bool) → leb (length bytes) 16 ≡ t → Err TooLong ≡ pick t (Ok (length bytes)) (Err TooLong) → raw_of [] ≡ raw_of (type_from (Some n) (Some bytes))
+          by : (t : Bool) → leb (length bytes) 16 ≡ t → Err TooLong ≡ pick t (Ok (length bytes)) (Err TooLong)
+              → raw_of [] ≡ raw_of (type_from (Some n) (Some bytes))
           by true q r = impossible (cc)
           by false q r = rw (ne_eqb (length bytes) n (λ s. omega (arith, leb-false (length bytes) 16 q)))
 
