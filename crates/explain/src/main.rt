@@ -15,28 +15,24 @@ fn answer_packet(to: Stdout, src: &[u8]) -> io::Result<()> {
     text_console::write_line(to, &mut line)
 }
 
+fn complain(to: Stdout, number: u64, what: &[u8]) -> io::Result<()> {
+    text_console::complain(to, number, what)?;
+    Ok(())
+}
+
 fn answer_line(to: Stdout, line: &[u8], number: u64) -> io::Result<()> {
     let mut src = [0u8; 2048];
     match text_hex::read_hex(line, &mut src) {
         Ok(n) => answer_packet(to, text_put::first(&src, n)),
-        Err(HexError::NotHex) => {
-            text_console::complain(to, number, b"not hexadecimal")?;
-            Ok(())
-        }
-        Err(HexError::TooLong) => {
-            text_console::complain(to, number, b"too long")?;
-            Ok(())
-        }
+        Err(HexError::NotHex) => complain(to, number, b"not hexadecimal"),
+        Err(HexError::TooLong) => complain(to, number, b"too long"),
     }
 }
 
 fn answer(to: Stdout, seen: Seen, number: u64, line: &[u8]) -> io::Result<()> {
     match seen {
         Seen::Line(n) => answer_line(to, text_put::first(line, n), number),
-        Seen::TooLong => {
-            text_console::complain(to, number, b"too long")?;
-            Ok(())
-        }
+        Seen::TooLong => complain(to, number, b"too long"),
         Seen::Passed => Ok(()),
     }
 }
@@ -45,11 +41,10 @@ fn answer(to: Stdout, seen: Seen, number: u64, line: &[u8]) -> io::Result<()> {
 fn run(from: Stdin, to: Stdout, buf: &mut [u8], line: &mut [u8]) -> io::Result<()> {
     let mut input = text_console::start();
     for _ in 0..u64::MAX {
-        let Some(came) = text_console::next(from, input, buf, line)? else {
+        let Some(came) = text_console::next(from, &mut input, buf, line)? else {
             return Ok(());
         };
         answer(to, came.seen, came.number, line)?;
-        input = came.input;
     }
     Ok(())
 }

@@ -55,11 +55,11 @@ fn response(r: AttRsp, att: Att, src: &[u8], line: &mut Line<'_>)
             code,
         } => error(line, request, handle, code),
         AttRsp::ReadByType { item_len, .. } => {
-            text_put::count(line, b"ReadByType item_len=", u64::from(item_len));
+            text_put::count(line, b"ReadByType item_len=", item_len as u64);
             explain_items::items(ATT_READ_BY_TYPE_RSP, att, src, line);
         }
         AttRsp::ReadByGroupType { item_len, .. } => {
-            text_put::count(line, b"ReadByGroupType item_len=", u64::from(item_len));
+            text_put::count(line, b"ReadByGroupType item_len=", item_len as u64);
             explain_items::items(ATT_READ_BY_GROUP_TYPE_RSP, att, src, line);
         }
         AttRsp::Read { data } => explain_field::part(line, b"Read data=", src, data),

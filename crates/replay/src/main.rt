@@ -122,11 +122,10 @@ fn run(from: Stdin, to: Stdout, buf: &mut [u8], line: &mut [u8]) -> io::Result<(
         different: 0,
     };
     for _ in 0..u64::MAX {
-        let Some(came) = text_console::next(from, input, buf, line)? else {
+        let Some(came) = text_console::next(from, &mut input, buf, line)? else {
             return conclude(to, tally);
         };
         take(to, came.seen, line, came.number, &mut tally)?;
-        input = came.input;
     }
     Ok(())
 }

@@ -45,10 +45,9 @@ pub struct Input {
     pub ended: bool,
 }
 
-// A line that came: what it is, its number, and where the reading then is.
+// A line that came: what it is, and its number.
 #[derive(Clone, Copy)]
 pub struct Came {
-    pub input: Input,
     pub seen: Seen,
     pub number: u64,
 }
@@ -89,10 +88,9 @@ fn byte(mut from: Stdin, input: &mut Input, buf: &mut [u8]) -> io::Result<Option
 //
 // What is read may be anything, so the contract has what holds of every read: the two buffers are as
 // long as before.
-// Kept: the reading goes in by value and comes back with the line: no plainer by `&mut`.
 pub fn next(
     from: Stdin,
-    mut input: Input,
+    input: &mut Input,
     buf: &mut [u8],
     line: &mut [u8],
 ) -> io::Result<Option<Came>>
@@ -103,18 +101,14 @@ pub fn next(
         if input.ended {
             return Ok(None);
         }
-        let stepped = match byte(from, &mut input, buf)? {
+        let stepped = match byte(from, input, buf)? {
             Some(c) => text_lines::step(input.lines, c, line),
             None => text_lines::last(input.lines, line),
         };
         input.lines = stepped.lines;
         if let Some(seen) = stepped.seen {
             let number = stepped.number;
-            return Ok(Some(Came {
-                input,
-                seen,
-                number,
-            }));
+            return Ok(Some(Came { seen, number }));
         }
     }
     Ok(None)

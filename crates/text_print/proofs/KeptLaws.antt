@@ -5,7 +5,7 @@ use Rattle.std.proofs.lemmas.List.{length-reverse}
 use Rattle.std.proofs.Math.Seq.{take-length}
 use Rattle.codec.specs.Buffer.{over, laid_at}
 use Rattle.ble_uuid.specs.Uuids.{own, width_of}
-use Rattle.ble_uuid.specs.UuidsLaws.{Whole}
+use Rattle.ble_uuid.specs.UuidsLaws.{Whole, own_length}
 use Rattle.ble_uuid.specs.declared.Uuid.{Uuid}
 use Rattle.text_print.specs.Print.{placed, capitals, hex_text}
 
@@ -29,10 +29,10 @@ copied_over src dst w e = e ∙ rw (take-length src)
 -- a UUID's own bytes, turned round in their array
 module _ (u : Uuid) (n : ℕ) (w : n ≡ width_of u) (f : Whole u) where
   pub own_inside : n ≤ length (own u)
-  own_inside = omega (arith, f, w)
+  own_inside = omega (arith, own_length u f, w)
 
   own_whole : take n (own u) ≡ own u
-  own_whole = let e : n ≡ length (own u) = omega (arith, f, w) in rw e (take-length (own u))
+  own_whole = let e : n ≡ length (own u) = omega (arith, own_length u f, w) in rw e (take-length (own u))
 
   turned : length (reverse (take n (own u))) ≡ n
   turned = length-reverse (take n (own u)) ∙ length-take-le n (own u) own_inside

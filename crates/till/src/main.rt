@@ -233,11 +233,10 @@ fn main(rt: HostRuntime) -> io::Result<()> {
     let mut input = text_console::start();
     // A proved loop has to end, so it has a number of turns that no run uses up.
     for _ in 0..u64::MAX {
-        let Some(came) = text_console::next(rt.stdin(), input, &mut buf, &mut line)? else {
+        let Some(came) = text_console::next(rt.stdin(), &mut input, &mut buf, &mut line)? else {
             return Ok(());
         };
         desk.answer(came.seen, &line, came.number)?;
-        input = came.input;
     }
     Ok(())
 }
