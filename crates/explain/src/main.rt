@@ -38,6 +38,7 @@ fn answer(to: Stdout, seen: Seen, number: u64, line: &[u8]) -> io::Result<()> {
 }
 
 // A proved loop has to end, so it has a number of turns that no run uses up.
+// Kept: the loop stands in each program: what lasts from line to line is its own (no plainer).
 fn run(from: Stdin, to: Stdout, buf: &mut [u8], line: &mut [u8]) -> io::Result<()> {
     let mut input = text_console::start();
     for _ in 0..u64::MAX {

@@ -115,6 +115,7 @@ fn conclude(to: Stdout, tally: Tally) -> io::Result<()> {
 }
 
 // A proved loop has to end, so it has a number of turns that no run uses up.
+// Kept: the loop stands in each program: what lasts from line to line is its own (no plainer).
 fn run(from: Stdin, to: Stdout, buf: &mut [u8], line: &mut [u8]) -> io::Result<()> {
     let mut input = text_console::start();
     let mut tally = Tally {

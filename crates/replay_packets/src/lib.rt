@@ -8,7 +8,7 @@ ghost use Rattle.std.specs.Prelude.{◌≡◌, length};
 ghost use Rattle.text_print.specs.Lines.{Puts};
 ghost use Rattle.replay_packets.specs.Places.{place_texts};
 
-use att::{Att, AttClient, AttReq, Span};
+use att::{ATT_READ_BY_TYPE_REQ, Att, AttClient, AttReq, Span};
 use att_layout::Follows;
 use ble_uuid::Uuid;
 use codec::{Error, Refusal};
@@ -98,7 +98,7 @@ fn handle(word: &[u8]) -> u16 {
 
 fn request(op: u8, start: u16, end: u16, kind: Uuid) -> Att {
     Att::Client(AttClient::Request(match op {
-        0x08 => AttReq::ReadByType {
+        ATT_READ_BY_TYPE_REQ => AttReq::ReadByType {
             start,
             end,
             attribute_type: kind,

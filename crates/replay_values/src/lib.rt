@@ -26,6 +26,8 @@ fn text_reply(code: u8, full: &[u8], reply: &mut Line<'_>) {
 }
 
 // T HEX
+// Kept: a reply goes into a buffer, from its start, and the answer is where it ends, here and in
+// replay_packets and replay_walk: the clauses are of the whole buffer (what may not change).
 pub fn text(line: &[u8], out: &mut [u8]) -> usize
     // The line keeps its length; its words are compared with the Rust, and not proved.
     ensures { length out.new ≡ length out.old }

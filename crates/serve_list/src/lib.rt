@@ -39,6 +39,7 @@ pub fn find_information(from: u16, to: u16, lent: Lent<'_>, out: &mut [u8]) -> W
 }
 
 // The answer to 06, for a 16-bit type and the value in this range of `src`.
+// Kept: seven parameters, here and in `read_by_type`: what the request carries, each once (no plainer).
 pub fn find_by_type_value(
     from: u16,
     to: u16,

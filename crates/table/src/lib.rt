@@ -27,6 +27,7 @@ pub fn new(fixed: &[u8], live: &[u8]) -> Result<Table, Refusal>
 }
 
 // Whether the table is sound for these lent areas.
+// Kept: table and areas one by one, here and below: outsiders call them so (what may not change).
 pub fn sound(t: Table, fixed: &[u8], live: &[u8]) -> bool
     ensures { result ≡ sound_table t (length fixed.now) (length live.now) }
 {

@@ -14,6 +14,7 @@ use ble_uuid::Uuid;
 // The lent buffer, and the position behind the texts in it.
 // Kept: a position for "no room" too, usize::MAX, and no Option: a line is built of many texts, one behind
 // the other, and one test at its end shows whether all of it stands there.
+// Kept: no `write!` and no `Display`: `Puts` says each text, and that a line without room stays.
 #[derive(Drop)]
 pub struct Line<'a> {
     pub out: &'a mut [u8],

@@ -232,6 +232,7 @@ fn main(rt: HostRuntime) -> io::Result<()> {
     };
     let mut input = text_console::start();
     // A proved loop has to end, so it has a number of turns that no run uses up.
+    // Kept: the loop stands in each program: what lasts from line to line is its own (no plainer).
     for _ in 0..u64::MAX {
         let Some(came) = text_console::next(rt.stdin(), &mut input, &mut buf, &mut line)? else {
             return Ok(());
