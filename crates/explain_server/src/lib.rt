@@ -55,6 +55,7 @@ fn response(r: AttRsp, att: Att, src: &[u8], line: &mut Line<'_>)
             code,
         } => error(line, request, handle, code),
         AttRsp::ReadByType { item_len, .. } => {
+            // Kept: `as`, here and below, since over `From` the proof did not close (tried).
             text_put::count(line, b"ReadByType item_len=", item_len as u64);
             explain_items::items(ATT_READ_BY_TYPE_RSP, att, src, line);
         }

@@ -143,6 +143,7 @@ fn request(op: u8, lent: Lent<'_>, packet: &[u8], out: &mut [u8]) -> Said
     ensures out_after { out.new
         ≡ out_of (request_to (views (lent_state lent.entry)) lent.entry.link packet.now) op out.old }
 {
+    // Kept: `as`, since over `From` the proof did not close (tried).
     if (lent.link.mtu as usize) < packet.len() {
         return serve_request::refuse(op, AttErrorCode::INVALID_PDU, out);
     }

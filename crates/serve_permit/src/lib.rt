@@ -12,6 +12,8 @@ use answers::Link;
 use att_error::AttErrorCode;
 use attributes::{Place, Record, Table};
 
+// Kept: the table goes by value, here and in table_records, as what outsiders call of `table` takes it; by
+// reference it would be no plainer.
 // Reading the attribute at a handle: 01, 02 or 0F where it is denied.
 #[tactic(auto, unfolding(crate::specs::Permit::read_at), using(attributes::specs::FindLaws::record_found))]
 pub fn may_read(table: Table, link: Link, handle: u16) -> Result<(), AttErrorCode>

@@ -44,6 +44,7 @@ pub fn read_blob(lent: Lent<'_>, handle: u16, offset: u16, out: &mut [u8]) -> Wr
         Err(code) => serve_tell::error(ATT_READ_BLOB_REQ, handle, code, out),
         Ok(()) => {
             let value = table_records::value_at(*lent.table, handle, lent.fixed, lent.live);
+            // Kept: `as`, since over `From` the proof did not close (tried).
             let at = offset as usize;
             if value.len() < at {
                 return serve_tell::error(
