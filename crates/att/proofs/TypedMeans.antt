@@ -4,8 +4,10 @@ use Rattle.std.proofs.Common.{ℕ, ◌+◌, ◌-◌, ◌^◌, ◌≤◌, ◌<◌
 use Rattle.codec.specs.Cases.{pick, lookup}
 use Rattle.codec.specs.CasesLaws.{impossible, both, join}
 use Rattle.primitives.specs.Numbers.{number_at, Octets}
-use Rattle.ble_uuid.specs.Uuids.{on_air, no_uuid, sliced, uuid_of}
+use Rattle.ble_uuid.specs.Uuids.{on_air, no_uuid, uuid_of}
+use Rattle.ble_uuid.specs.UuidsLaws.{sliced_short, sliced_long, on_air_own, own_array}
 use Rattle.ble_uuid.specs.declared.Uuid.{Uuid}
+use Rattle.ble_uuid.specs.declared.Uuid.TheVariants as uuid
 use Rattle.att.specs.Wire.{Tail, Ends, Rest, Handles, AUuid, Items, by_format, NoPacket, Shape, shape, rows, shape_of, total, numbers, uuid_length, tail_decodes, shape_decodes, decodes, meaning, kept_tail, shape_means, Means, NotRead, read, strict, Sent, send, resent}
 use Rattle.att.specs.Typed.{Build, builds, build_of, refused_build, behind, uuid_in, shape_builds, refusal, row_decoded, Parsed, decoded, shown, shown_all, span, show_att, part_of, part_ok, tail_of, means_shown, countable, encoded_shown, encoded_again, read_of}
 use Rattle.att.proofs.RoundTrip.{strict_decodes, strict_round_trip}
@@ -85,11 +87,14 @@ behind_part k op p = rw (add-one k) (take_all (length p - k) (drop k p) (simp le
 
 -- a UUID of 2 or 16 bytes is carried in the bytes that it was read from
 air_of : (r : List ℕ) (n : ℕ) → uuid_length n ≡ true → length r ≡ n → on_air (uuid_of r) ≡ r
-unfolding sliced on_air
 air_of r n h e = by (eqb n 2) refl h where
   by : (x : Bool) → eqb n 2 ≡ x → (x || eqb n 16) ≡ true → on_air (uuid_of r) ≡ r
-  by true f k = let l : length r ≡ 2 = omega (arith, eqb-true n 2 f) in rw l
-  by false f k = let l : length r ≡ 16 = omega (arith, eqb-true n 16 k) in rw l
+  by true f k =
+      let l : length r ≡ 2 = omega (arith, eqb-true n 2 f) in
+      rw (sliced_short r l) (on_air_own (uuid.Uuid16 r) (λ b z. impossible (cc)) ∙ own_array (uuid.Uuid16 r) l)
+  by false f k =
+      let l : length r ≡ 16 = omega (arith, eqb-true n 16 k) in
+      rw (sliced_long r l) (on_air_own (uuid.Uuid128 r) (λ b z. impossible (cc)) ∙ own_array (uuid.Uuid128 r) l)
 
 tail_same : (t : Tail) (k op : ℕ) (p ns : List ℕ) → tail_decodes t ns (drop k p) ≡ true
     → tail_of t (carried t (uuid_in t (drop k p))) (part_of (ranged t (behind k p)) (op ∷ p)) ≡ kept_tail t (drop k p)

@@ -6,7 +6,7 @@
 #![tactic(auto)]
 
 ghost use Rattle.std.specs.Prelude.{◌≡◌, option_copied};
-ghost use Rattle.att.specs.Formats.{format_in, format_number, pair_length};
+ghost use Rattle.att.specs.Formats.{format_of, format_in, format_number, pair_length};
 ghost use Rattle.att.specs.Typed.{part_in};
 ghost use Rattle.att.specs.declared.Att.TheVariants.{Client, Server};
 ghost use Rattle.att.specs.declared.AttClient.TheVariants.{Request, Command, Confirmation};
@@ -194,6 +194,18 @@ impl From<FindInformationUuidFormat> for u8 {
 }
 
 impl FindInformationUuidFormat {
+    // The format of a byte that decoding accepts, where nothing is refused: any byte but 2 gives the first.
+    // Kept beside `try_from`: it cannot fail (what may not change).
+    pub fn from_decoded(format: u8) -> Self
+        ensures { result ≡ format_of format }
+    {
+        if format == 2 {
+            FindInformationUuidFormat::Uuid128
+        } else {
+            FindInformationUuidFormat::Uuid16
+        }
+    }
+
     // The length of a pair of handle and UUID.
     pub fn pair_len(self) -> usize
         ensures { result ≡ pair_length self }

@@ -27,7 +27,7 @@ use att::{
 };
 use att_rows::{
     error_rsp, exchange_mtu_req, exchange_mtu_rsp, execute_write_req, field,
-    find_by_type_value_req, find_information_req, find_information_rsp, handle_value_ind,
+    find_by_type_value_req, find_information_of, find_information_req, handle_value_ind,
     handle_value_ntf, prepare_write_req, read_by_group_type_req, read_by_group_type_rsp,
     read_by_type_req, read_by_type_rsp, read_req, write_cmd, write_req,
 };
@@ -35,7 +35,6 @@ use att_strict::item_len;
 use ble_uuid::Uuid;
 use codec::Error;
 use cursor::remaining;
-use cursor_read::ReadCursor;
 use primitives::Primitive;
 
 // What bytes decode to; what is no packet is refused with InvalidValue.
@@ -127,9 +126,8 @@ fn dispatch(op: u8, p: &[u8]) -> Result<Att, Error>
 fn read_blob_of(p: &[u8]) -> Result<Att, Error>
     ensures { result ≡ answered Rest [] 4 p.now (request (req.ReadBlob (number_at 2 0 p.now) (number_at 2 2 p.now))) }
 {
-    let mut r = ReadCursor::new(p);
-    let handle = r.read()?;
-    let offset = r.read()?;
+    let (handle, next) = cursor_read::field(p, 0)?;
+    let (offset, _) = cursor_read::field(p, next)?;
     packet(p, 4, Att::from(AttReq::ReadBlob { handle, offset }))
 }
 
@@ -158,7 +156,7 @@ fn pairs_of(p: &[u8]) -> Result<AttRsp, Error>
     ensures { result ≡ pairs_in (number_at 1 0 p.now) (after 2 (rest 1 p.now)) }
 {
     let format = FindInformationUuidFormat::try_from(u8::at(p, 0))?;
-    Ok(find_information_rsp(format, remaining(1, p)))
+    Ok(find_information_of(format, remaining(1, p)))
 }
 
 // 08 and 10: behind start and end a UUID of 2 or 16 bytes.

@@ -74,7 +74,7 @@ fn whole_items(part: &[u8], each: usize) -> Option<&[u8]>
 fn sent_uuid(uuid: &Uuid) -> Option<&[u8]>
     ensures { option_copied result ≡ sent_uuid uuid.now }
 {
-    let own = uuid.on_air();
+    let own = uuid.air_bytes();
     match own.len() {
         2 | 16 => Some(own),
         _ => None,

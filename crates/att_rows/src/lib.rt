@@ -7,6 +7,7 @@
 
 ghost use Rattle.std.specs.Prelude.{◌≡◌};
 ghost use Rattle.primitives.specs.Numbers.{number_at};
+ghost use Rattle.att.specs.Formats.{format_of};
 ghost use Rattle.att.specs.Typed.{code};
 ghost use Rattle.att.specs.declared.AttReq.TheVariants as req;
 ghost use Rattle.att.specs.declared.AttRsp.TheVariants as rsp;
@@ -60,7 +61,15 @@ pub fn find_information_req(p: &[u8]) -> AttReq
     }
 }
 
-pub fn find_information_rsp(format: FindInformationUuidFormat, items: &[u8]) -> AttRsp
+// Kept beside `find_information_of`: of any payload, and it cannot fail (what may not change).
+pub fn find_information_rsp(p: &[u8], items: &[u8]) -> AttRsp
+    ensures { result ≡ rsp.FindInformation (format_of (number_at 1 0 p.now)) (after 2 items.now) }
+{
+    find_information_of(FindInformationUuidFormat::from_decoded(u8::at(p, 0)), items)
+}
+
+// 05 of a format that was read and tested already.
+pub fn find_information_of(format: FindInformationUuidFormat, items: &[u8]) -> AttRsp
     ensures { result ≡ rsp.FindInformation format (after 2 items.now) }
 {
     AttRsp::FindInformation {

@@ -9,7 +9,7 @@ use Rattle.codec.specs.Cases.{pick}
 use Rattle.codec.specs.CasesLaws.{impossible, both, join}
 use Rattle.codec.specs.declared.Refusal.{Refusal}
 use Rattle.codec.specs.declared.Refusal.TheVariants.{BadTable}
-use Rattle.attributes.specs.Additions.{tested, table_after, empty_table, new_refusal, new_table, last_handle, used, fresh_place, fresh, add_tests, add_refusal, appended, added, fresh_item}
+use Rattle.attributes.specs.Additions.{tested, changed_by, table_after, left_by, empty_table, new_refusal, new_table, last_handle, used, fresh_place, fresh, add_tests, add_refusal, appended, added, fresh_item}
 use Rattle.attributes.specs.Lists.{Each}
 use Rattle.attributes.specs.Ledger.{Item, item, ledger_of}
 use Rattle.attributes.specs.Records.{entries}
@@ -149,6 +149,11 @@ pub refused_add : (t : Table) (a : Addition) (fl ll : ℕ) (why : Refusal) → a
     → (added t a fl ll ≡ Err why) × (table_after t (added t a fl ll) ≡ t)
 unfolding added
 refused_add t a fl ll why e = rw e (refl, refl)
+
+-- what a call leaves its caller is what its tests say
+pub left_after : (o : Result Unit Refusal) (next t : Table) → table_after t (changed_by o next) ≡ left_by o next t
+left_after (Ok u) next t = refl
+left_after (Err why) next t = refl
 
 -- A new table is sound for the areas that it was made for, and has no record.
 pub new_sound : (fl ll : ℕ) → new_refusal ll ≡ Ok tt → (new_table fl ll ≡ Ok (empty_table fl ll)) × (sound_table (empty_table fl ll) fl ll ≡ true)

@@ -30,6 +30,11 @@ abbrev pub table_after : Table → Result Table Refusal → Table
 table_after t (Ok next) = next
 table_after t (Err why) = t
 
+-- The same, as the tests say it: the changed table, or the caller's own.
+abbrev pub left_by : Result Unit Refusal → Table → Table → Table
+left_by (Ok u) next t = next
+left_by (Err why) next t = t
+
 -- A table with no record, built for areas of these lengths. The places that do not count hold a blank record.
 abbrev pub blank : Record
 blank = record {

@@ -73,9 +73,12 @@ missing_from {A = A} handle h gives none j (x ∷ l) e = by (eqb (handle x) h) e
     by true e f = impossible (cc)
     by false e f = f e
 
-pub missing_gives : {A : Type 0} (h : ℕ) (gives : Record → A) (none : A) (rs : List Record) → find_in h rs ≡ None → record_at h gives none rs ≡ none
-missing_gives h gives none rs e =
-    missing_from (λ (r : Record). r.handle) h gives none 0 rs (sym (position_from-zero (λ (r : Record). eqb r.handle h) rs) ∙ e)
+pub missing_gives : {A : Type 0} (h : ℕ) (gives : Record → A) (none : A) (j : ℕ) (rs : List Record) → position_from (λ (r : Record). r.handle == h) j rs ≡ None
+    → record_at h gives none rs ≡ none
+missing_gives h gives none j rs e = missing_from (λ (r : Record). r.handle) h gives none j rs e
+
+pub missing_in : {A : Type 0} (h : ℕ) (gives : Record → A) (none : A) (rs : List Record) → find_in h rs ≡ None → record_at h gives none rs ≡ none
+missing_in h gives none rs e = missing_gives h gives none 0 rs (sym (position_from-zero (λ (r : Record). r.handle == h) rs) ∙ e)
 
 first_there : {A B : Type 0} (handle : A → ℕ) (h : ℕ) (gives : A → B) (none : B) (l : List A) (i : ℕ) (d : A) → i < length l → eqb (handle (get_or l i d)) h ≡ true
     → ((k : ℕ) → k < i → eqb (handle (get_or l k d)) h ≡ false) → first_at handle h gives none l ≡ gives (get_or l i d)

@@ -1,6 +1,6 @@
 -- UUIDs (document 01, "UUIDs"; Core Specification, Volume 3 Part F, 3.2.1): the three forms, the bytes of each, and when two
 -- are equal. A UUID's own length is 2, 4 or 16, and never the 6, 8 or 20 of the Rust's `Uuid::size`.
-use Rattle.std.specs.Prelude.{ℕ, Bool, List, [], ◌∷◌, ◌++◌, length, replicate, Result, Ok, Err}
+use Rattle.std.specs.Prelude.{ℕ, Bool, List, [], ◌∷◌, ◌++◌, length, take, replicate, Result, Ok, Err}
 use Rattle.codec.specs.Buffer.{over}
 use Rattle.codec.specs.Cases.{lookup, same}
 use Rattle.codec.specs.declared.Error.{Error}
@@ -16,11 +16,15 @@ width_of (Uuid16 b) = 2
 width_of (Uuid32 b) = 4
 width_of (Uuid128 b) = 16
 
--- the form's own bytes
+-- the array that the form holds
+abbrev pub array_of : Uuid → List ℕ
+array_of (Uuid16 b) = b
+array_of (Uuid32 b) = b
+array_of (Uuid128 b) = b
+
+-- the form's own bytes: its array, which in code is as long as the form is wide
 abbrev pub own : Uuid → List ℕ
-own (Uuid16 b) = b
-own (Uuid32 b) = b
-own (Uuid128 b) = b
+own u = take (width_of u) (array_of u)
 
 -- what a packet carries of a UUID
 unfoldable pub on_air : Uuid → List ℕ
@@ -75,7 +79,7 @@ uuid_of l = uuid_or (sliced l)
 
 -- the number of a 16-bit form; another form is InvalidValue
 abbrev pub short_of : Uuid → Result ℕ Error
-short_of (Uuid16 b) = Ok (number_of b)
+short_of (Uuid16 b) = Ok (number_of (own (Uuid16 b)))
 short_of (Uuid32 b) = Err InvalidValue
 short_of (Uuid128 b) = Err InvalidValue
 
@@ -91,6 +95,6 @@ base = 0xFB ∷ 0x34 ∷ 0x9B ∷ 0x5F ∷ 0x80 ∷ 0x00 ∷ 0x00 ∷ 0x80 ∷ 0
 
 -- the bytes under the format
 abbrev pub att_bytes : Uuid → List ℕ
-att_bytes (Uuid16 b) = b
-att_bytes (Uuid32 b) = base ++ b
-att_bytes (Uuid128 b) = b
+att_bytes (Uuid16 b) = own (Uuid16 b)
+att_bytes (Uuid32 b) = base ++ own (Uuid32 b)
+att_bytes (Uuid128 b) = own (Uuid128 b)

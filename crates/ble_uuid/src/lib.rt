@@ -4,7 +4,7 @@
 #![tactic(auto)]
 
 ghost use Rattle.std.specs.Prelude.{◌≡◌, ◌≤◌, ◌++◌, length};
-ghost use Rattle.ble_uuid.specs.Uuids.{width_of, own, on_air, equal_types, equal, base, att_type, att_bytes};
+ghost use Rattle.ble_uuid.specs.Uuids.{width_of, own, on_air, equal_types, equal, padded, base, att_type, att_bytes};
 ghost use Rattle.ble_uuid.specs.Uuids.{raw_of, short_of, short, wide, long, no_uuid, sliced};
 ghost use Rattle.ble_uuid.specs.UuidsLaws.{equal_partial, equal_equivalence};
 
@@ -19,7 +19,7 @@ pub enum Uuid {
 }
 
 // Bytes handed back by value: the first `len` count, and 00 stands behind them.
-// Kept: `att_bytes` makes sixteen bytes that no one lent, and there is no heap.
+// Kept: document 01 hands them back so, `att_bytes` makes sixteen that no one lent, and there is no heap.
 #[derive(Clone, Copy)]
 pub struct Raw {
     pub bytes: [u8; 16],
@@ -39,7 +39,7 @@ impl PartialEq for Uuid {
     ghost laws = { equal_partial };
 
     fn eq(&self, other: &Uuid) -> bool {
-        equal_types(self.as_raw(), other.as_raw())
+        equal_types(self.own_bytes(), other.own_bytes())
     }
 }
 
@@ -112,8 +112,8 @@ impl Uuid {
         }
     }
 
-    // The UUID's own bytes.
-    pub fn as_raw(&self) -> &[u8]
+    // The UUID's own bytes, lent.
+    pub fn own_bytes(&self) -> &[u8]
         ensures { result.now ≡ own self.now }
     {
         match self {
@@ -123,11 +123,28 @@ impl Uuid {
         }
     }
 
-    // The bytes that a packet carries.
-    // Kept beside `as_raw`: what a packet carries is one definition of its own, which request W-204 moves.
+    // The bytes that a packet carries, lent.
+    // Kept beside `own_bytes`: what a packet carries is one definition of its own, which request W-204 moves.
     #[tactic(auto, unfolding(crate::specs::Uuids::on_air))]
-    pub fn on_air(&self) -> &[u8]
+    pub fn air_bytes(&self) -> &[u8]
         ensures { result.now ≡ on_air self.now }
+    {
+        self.own_bytes()
+    }
+
+    // The UUID's own bytes, by value.
+    pub fn as_raw(self) -> Raw
+        ensures { result ≡ raw_of (own self) }
+    {
+        let bytes = pad(self.own_bytes());
+        let len = self.width();
+        Raw { bytes, len }
+    }
+
+    // The bytes that a packet carries, by value.
+    #[tactic(auto, unfolding(crate::specs::Uuids::on_air))]
+    pub fn on_air(self) -> Raw
+        ensures { result ≡ raw_of (on_air self) }
     {
         self.as_raw()
     }
@@ -137,9 +154,11 @@ impl Uuid {
         ensures { result ≡ raw_of (att_bytes self.now) }
     {
         match self {
-            Uuid::Uuid16(own) => in_front(own),
-            Uuid::Uuid32(own) => in_front(&on_base(*own)),
-            Uuid::Uuid128(own) => in_front(own),
+            Uuid::Uuid32(own) => {
+                let bytes = on_base(*own);
+                Raw { bytes, len: 16 }
+            }
+            Uuid::Uuid16(_) | Uuid::Uuid128(_) => self.as_raw(),
         }
     }
 
@@ -194,16 +213,13 @@ fn all<const N: usize>(value: &[u8]) -> [u8; N]
     bytes
 }
 
-fn in_front(own: &[u8]) -> Raw
+fn pad(own: &[u8]) -> [u8; 16]
     requires { length own.now ≤ 16 }
-    ensures { result ≡ raw_of own.now }
+    ensures { result ≡ padded own.now }
 {
     let mut bytes = [0u8; 16];
     bytes[..own.len()].copy_from_slice(own);
-    Raw {
-        bytes,
-        len: own.len(),
-    }
+    bytes
 }
 
 // A 32-bit value expanded on the base.

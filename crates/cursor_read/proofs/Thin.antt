@@ -1,4 +1,5 @@
--- One walk for every method that takes the cursor apart and calls a function of the crate cursor with its position and its bytes.
+-- One walk for every method that takes the cursor apart and calls a function of the crate cursor with its position and its bytes:
+-- `remaining`, `available` and `len`. (`read` is lent the cursor, which it moves by what `cursor::read` answers.)
 -- It is over the result's type s, what the contract says of the result P, the result's MIR type ρ and the callee's name f: all that
 -- it knows of the callee is that it says P of its own result. Rattle walks the methods itself by now; before, each method's proof cited
 -- `proved` at its own four.

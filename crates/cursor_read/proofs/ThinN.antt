@@ -1,5 +1,5 @@
 -- The walk of Thin with one number more: every method that takes the cursor apart and calls a function of the crate cursor with its
--- position, its bytes and the number that the method was handed. What a number owns is not carried: it is made anew.
+-- position, its bytes and the number that the method was handed (`slice`, `slice_answer`, `consume`). What a number owns is not carried: it is made anew.
 use mathlib.Core.Path.{◌≡◌, refl}
 use Prim.Native.Nat.{ℕ, ◌<◌, ◌^◌}
 use mathlib.Core.List.{List, [], ◌∷◌}

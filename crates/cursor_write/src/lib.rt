@@ -12,7 +12,6 @@ ghost use Rattle.cursor.specs.Reading.{rest};
 ghost use Rattle.cursor_write.specs.Writing.{truncated, split_first, split_second, writing, filled, finished};
 
 use codec::Error;
-use cursor::forward;
 use primitives::Primitive;
 
 // The lent buffer, and the position in it.
@@ -29,7 +28,10 @@ impl<'d> WriteCursor<'d> {
         ensures pos_value { result.pos ≡ 0 }
         ensures data_value { result.«data».now ≡ «data».old }
     {
-        WriteCursor { pos: 0, data }
+        WriteCursor {
+            pos: cursor::new(),
+            data,
+        }
     }
 
     pub fn reset(&mut self)
@@ -37,7 +39,7 @@ impl<'d> WriteCursor<'d> {
         ensures pos_after { self.new.pos ≡ 0 }
         ensures data_after { self.new.«data».now ≡ self.old.«data».now }
     {
-        self.pos = 0;
+        self.pos = cursor::reset();
     }
 
     // Moves the position back to npos; it never moves it on.
@@ -53,7 +55,7 @@ impl<'d> WriteCursor<'d> {
     pub fn len(&self) -> usize
         ensures { result ≡ self.now.pos }
     {
-        self.pos
+        cursor::len(self.pos, self.data)
     }
 
     pub fn available(&self) -> usize
@@ -69,7 +71,8 @@ impl<'d> WriteCursor<'d> {
         ensures pos_after { self.new.pos ≡ stepped self.old.pos (moving self.old.pos (length self.old.«data».now) n) }
         ensures data_after { self.new.«data».now ≡ self.old.«data».now }
     {
-        self.pos = forward(self.pos, self.data.len(), n)?;
+        let data = &mut *self.data;
+        self.pos = commit(self.pos, data, n)?;
         Ok(())
     }
 

@@ -1,5 +1,5 @@
 -- Laws of the items' texts, in the shapes that the proofs of the code ask for.
-use Rattle.std.specs.Prelude.{ℕ, suc, ◌+◌, ◌-◌, ◌<◌, ◌≤◌, ◌≡◌, refl, Some, None, length}
+use Rattle.std.specs.Prelude.{ℕ, zero, suc, ◌+◌, ◌-◌, ◌<◌, ◌≤◌, ◌≡◌, refl, Some, None, length}
 use Rattle.std.proofs.Common.{sym, ap, ◌∙◌, arith, append_assoc, append-nil}
 use mathlib.Core.List.{List, [], ◌++◌, flat_map}
 use Rattle.codec.specs.CasesLaws.{impossible}
@@ -31,25 +31,25 @@ pub value_item_lem : (st : Step) (src : List ℕ) (i : HandleValue) (rest : List
 value_item_lem None src i rest q f = impossible (cc)
 value_item_lem (Some g) src i rest q f = let k : i ≡ value_at g.at (found_bytes g src) g.next = cc in rw (k, f) (refl, refl)
 
--- the end has no texts
+-- the end has no texts, and no position of a next item
 module _ (texts : List ℕ → List (List ℕ)) where
-  pub range_end : (st : Step) (src : List ℕ) → None ≡ pair_of st src → step_texts texts st src ≡ []
-  range_end None src q = refl
+  pub range_end : (st : Step) (src : List ℕ) → None ≡ pair_of st src → (step_texts texts st src ≡ []) × (None ≡ next_of st)
+  range_end None src q = (refl, refl)
   range_end (Some f) src q = impossible (cc)
 
-  pub information_end : (st : Step) (src : List ℕ) → None ≡ information_of st src → step_texts texts st src ≡ []
-  information_end None src q = refl
+  pub information_end : (st : Step) (src : List ℕ) → None ≡ information_of st src → (step_texts texts st src ≡ []) × (None ≡ next_of st)
+  information_end None src q = (refl, refl)
   information_end (Some f) src q = impossible (cc)
 
-  pub value_end : (st : Step) (src : List ℕ) → None ≡ value_of st src → step_texts texts st src ≡ []
-  value_end None src q = refl
+  pub value_end : (st : Step) (src : List ℕ) → None ≡ value_of st src → (step_texts texts st src ≡ []) × (None ≡ next_of st)
+  value_end None src q = (refl, refl)
   value_end (Some f) src q = impossible (cc)
 
 -- How far the items are put on the line: what stands there and what is still to be put are all of them.
-pub record Putting (k : Kind) (att : Att) (src : List ℕ) (before now : Line) (pos left : ℕ) : Type 0 where
+pub record Putting (k : Kind) (att : Att) (src : List ℕ) (all : ℕ) (before now : Line) (pos left : ℕ) : Type 0 where
   pub done : List (List ℕ)
   pub puts : Puts done before now
-  pub whole : done ++ texts_from k att src left pos ≡ texts_from k att src (length src) 0
+  pub whole : done ++ texts_from k att src left pos ≡ texts_from k att src all 0
 
 module _ (k : Kind) (att : Att) (src : List ℕ) where
   -- the texts from an item on, and from the end on
@@ -65,38 +65,47 @@ module _ (k : Kind) (att : Att) (src : List ℕ) where
   at_end n pos None e f = (rw e refl, refl)
   at_end n pos (Some d) e f = impossible (cc)
 
-  module _ (before : Line) where
-    pub nothing_put : Putting k att src before before 0 (length src - 0)
+  module _ (all : ℕ) (before : Line) where
+    pub nothing_put : Putting k att src all before before 0 all
     unfolding behind holding
-    nothing_put = let z : length src - 0 ≡ length src = omega arith in rw z (record { done = []; puts = (refl, refl, refl); whole = refl })
+    nothing_put = record { done = []; puts = (refl, refl, refl); whole = refl }
 
-    pub more_put : (now new : Line) (pos turns next : ℕ) → Putting k att src before now pos (length src - turns) → turns < length src
-        → Some next ≡ next_in k att src pos → Puts (item_texts k att src pos) now new → Putting k att src before new next (length src - (turns + 1))
-    more_put now new pos turns next p h f q =
-        let e : length src - turns ≡ suc (length src - (turns + 1)) = omega arith in
-        let t = from_step (length src - (turns + 1)) pos next (step_in k att src pos) refl f in
-        record {
+    pub more_put : (now new : Line) (pos left next : ℕ) → Putting k att src all before now pos left → 0 < left
+        → Some next ≡ next_in k att src pos → Puts (item_texts k att src pos) now new → Putting k att src all before new next (left - 1)
+    more_put now new pos zero next p h f q = absurd (omega arith)
+    more_put now new pos (suc n) next p h f q =
+        let e : suc n - 1 ≡ n = omega arith in
+        let t = from_step n pos next (step_in k att src pos) refl f in
+        rw e (record {
           done = p.done ++ item_texts k att src pos;
           puts = puts_then p.done (item_texts k att src pos) before now new p.puts q;
           whole =
-              append_assoc p.done (item_texts k att src pos) (texts_from k att src (length src - (turns + 1)) next)
+              append_assoc p.done (item_texts k att src pos) (texts_from k att src n next)
               ∙ ap (λ (l : List (List ℕ)). p.done ++ l) (sym t)
-              ∙ (rw e at p.whole);
-        }
+              ∙ p.whole;
+        })
 
-    pub all_put : (now new : Line) (pos turns : ℕ) → Putting k att src before now pos (length src - turns) → turns < length src
-        → None ≡ next_in k att src pos → Puts (item_texts k att src pos) now new → Puts (texts_from k att src (length src) 0) before new
-    all_put now new pos turns p h f q =
-        let e : length src - turns ≡ suc (length src - (turns + 1)) = omega arith in
-        let t = at_end (length src - (turns + 1)) pos (step_in k att src pos) refl f in
-        let w : p.done ++ item_texts k att src pos ≡ texts_from k att src (length src) 0 =
-        ap (λ (l : List (List ℕ)). p.done ++ l) (t.1 ∙ sym t.0) ∙ (rw e at p.whole) in
+    pub all_put : (now new : Line) (pos left : ℕ) → Putting k att src all before now pos left → 0 < left
+        → None ≡ next_in k att src pos → Puts (item_texts k att src pos) now new → Puts (texts_from k att src all 0) before new
+    all_put now new pos zero p h f q = absurd (omega arith)
+    all_put now new pos (suc n) p h f q =
+        let t = at_end n pos (step_in k att src pos) refl f in
+        let w : p.done ++ item_texts k att src pos ≡ texts_from k att src all 0 = ap (λ (l : List (List ℕ)). p.done ++ l) (t.1 ∙ sym t.0) ∙ p.whole in
         rw (sym w) (puts_then p.done (item_texts k att src pos) before now new p.puts q)
 
-    pub used_up : (now : Line) (pos turns : ℕ) → Putting k att src before now pos (length src - turns) → length src ≤ turns
-        → Puts (texts_from k att src (length src) 0) before now
+    pub used_up : (now : Line) (pos left : ℕ) → Putting k att src all before now pos left → left ≤ 0 → Puts (texts_from k att src all 0) before now
     unfolding texts_from flat_map
-    used_up now pos turns p h =
-        let e : length src - turns ≡ 0 = omega arith in
-        let w : p.done ≡ texts_from k att src (length src) 0 = sym (append-nil p.done) ∙ (rw e at p.whole) in
+    used_up now pos zero p h =
+        let w : p.done ≡ texts_from k att src all 0 = sym (append-nil p.done) ∙ p.whole in
         rw (sym w) p.puts
+    used_up now pos (suc n) p h = absurd (omega arith)
+
+    -- the same of a walk of so many turns
+    pub none_turned : Putting k att src all before before 0 (all - 0)
+    none_turned = let z : all - 0 ≡ all = omega arith in rw z nothing_put
+
+    pub turn_put : (now new : Line) (pos turns next : ℕ) → Putting k att src all before now pos (all - turns) → turns < all
+        → Some next ≡ next_in k att src pos → Puts (item_texts k att src pos) now new → Putting k att src all before new next (all - (turns + 1))
+    turn_put now new pos turns next p h f q =
+        let e : all - (turns + 1) ≡ all - turns - 1 = omega arith in
+        rw e (more_put now new pos (all - turns) next p (omega arith) f q)

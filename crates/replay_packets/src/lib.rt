@@ -5,6 +5,7 @@
 #![tactic(auto)]
 
 ghost use Rattle.std.specs.Prelude.{◌≡◌, length};
+ghost use Rattle.att.specs.Typed.{encoded, written_of, laid_of};
 ghost use Rattle.text_print.specs.Lines.{Puts};
 ghost use Rattle.replay_packets.specs.Places.{place_texts};
 
@@ -12,12 +13,29 @@ use att::{ATT_READ_BY_TYPE_REQ, Att, AttClient, AttReq, Span};
 use att_layout::Follows;
 use ble_uuid::Uuid;
 use codec::{Error, Refusal};
+use replay_rooms::Trial;
 use text_print::Line;
+
+// The encoding of a packet, tried in rooms.
+#[derive(Clone, Copy)]
+struct Encoding<'d> {
+    att: Att,
+    src: &'d [u8],
+}
+
+impl<'d> Trial for Encoding<'d> {
+    ghost answer = { λ e out. written_of (encoded e.att e.src.now) out };
+
+    ghost after = { λ e out. laid_of (encoded e.att e.src.now) out };
+
+    fn write(&self, out: &mut [u8]) -> Result<usize, Error> {
+        att_encode::encode(self.att, self.src, out)
+    }
+}
 
 // ROOMS of the encoding of a packet, behind a text.
 fn rooms(att: Att, src: &[u8], full: &[u8], reply: &mut Line<'_>, name: &[u8]) {
-    let call = |room: &mut [u8]| att_encode::encode(att, src, room);
-    replay_rooms::tried(&call, full, reply, name);
+    replay_rooms::tried(&Encoding { att, src }, full, reply, name);
 }
 
 // ROOMS, of what the line shows that encoding writes: the packet itself where it is strict.
@@ -113,10 +131,9 @@ fn request(op: u8, start: u16, end: u16, kind: Uuid) -> Att {
 
 // A refused encoding: so in all the rooms from 0 to 24.
 fn not_encoded(att: Att, e: Error, reply: &mut Line<'_>) {
-    let call = |room: &mut [u8]| att_encode::encode(att, b"", room);
     replay_base::refused(reply, b"", e);
     size(att, reply);
-    let n = replay_rooms::refusing(&call, u8::from(Refusal::from(e)), 25);
+    let n = replay_rooms::refusing(&Encoding { att, src: b"" }, u8::from(Refusal::from(e)), 25);
     text_put::count(reply, b" ", n as u64);
 }
 

@@ -4,12 +4,24 @@
 // of its bytes and none behind them.
 #![tactic(auto)]
 
-ghost use Rattle.std.specs.Prelude.{◌≡◌, length, ◌≤◌};
+ghost use Rattle.std.specs.Prelude.{ℕ, ◌≡◌, List, length, ◌≤◌, Result};
+ghost use Rattle.codec.specs.declared.Error.{Error};
 ghost use Rattle.text_print.specs.Lines.{Puts};
 ghost use Rattle.replay_rooms.specs.Rooms.{all_of, untouched_of, wrote_of, rooms_texts};
 
 use codec::{Error, Refusal};
 use text_print::Line;
+
+// A call that is to be tried: what it is called with stands in the value, all but the buffer.
+pub trait Trial {
+    ghost answer: { Self → List ℕ → Result ℕ Error };
+
+    ghost after: { Self → List ℕ → List ℕ };
+
+    fn write(&self, out: &mut [u8]) -> Result<usize, Error>
+        ensures value { result ≡ answer self.now out.old }
+        ensures out_after { out.new ≡ after self.now out.old };
+}
 
 // Whether all bytes are v.
 fn all(bytes: &[u8], v: u8) -> bool
@@ -43,68 +55,42 @@ fn written(w: Result<usize, Error>, full: &[u8], out: &[u8], v: u8) -> bool
 }
 
 // One room, over bytes v: refused with this number and nothing written, or written whole.
-fn refuses<F: Fn(&mut [u8]) -> Result<usize, Error>>(
-    call: &F,
-    number: u8,
-    room: usize,
-    v: u8,
-) -> bool
-    requires { F.IsAlwaysCallable call.now }
-{
+fn refuses<T: Trial>(trial: &T, number: u8, room: usize, v: u8) -> bool {
     let mut out = [v; 1032];
     if 1032 < room {
         return false;
     }
     let out = &mut out[..room];
-    untouched(call(out), number, out, v)
+    untouched(trial.write(out), number, out, v)
 }
 
 // Kept beside `refuses`: a closure for the test would stand in each of four calls (no plainer).
-fn writes<F: Fn(&mut [u8]) -> Result<usize, Error>>(
-    call: &F,
-    full: &[u8],
-    room: usize,
-    v: u8,
-) -> bool
-    requires { F.IsAlwaysCallable call.now }
-{
+fn writes<T: Trial>(trial: &T, full: &[u8], room: usize, v: u8) -> bool {
     let mut out = [v; 1032];
     if 1032 < room {
         return false;
     }
     let out = &mut out[..room];
-    written(call(out), full, out, v)
+    written(trial.write(out), full, out, v)
 }
 
 // How many rooms from 0 on refuse with this number, and how many from there on are written.
-// A closure has to be callable, which every one is that has no `requires` of its own.
-pub fn refusing<F: Fn(&mut [u8]) -> Result<usize, Error>>(
-    call: &F,
-    number: u8,
-    most: usize,
-) -> usize
-    requires { F.IsAlwaysCallable call.now }
+pub fn refusing<T: Trial>(trial: &T, number: u8, most: usize) -> usize
     ensures { result ≤ most }
 {
     for room in 0..most {
-        if !(refuses(call, number, room, 0xAA) && refuses(call, number, room, 0x55)) {
+        if !(refuses(trial, number, room, 0xAA) && refuses(trial, number, room, 0x55)) {
             return room;
         }
     }
     most
 }
 
-fn writing<F: Fn(&mut [u8]) -> Result<usize, Error>>(
-    call: &F,
-    full: &[u8],
-    from: usize,
-    most: usize,
-) -> usize
-    requires callable { F.IsAlwaysCallable call.now }
-    requires order { from ≤ most }
+fn writing<T: Trial>(trial: &T, full: &[u8], from: usize, most: usize) -> usize
+    requires { from ≤ most }
 {
     for room in from..most {
-        if !(writes(call, full, room, 0xAA) && writes(call, full, room, 0x55)) {
+        if !(writes(trial, full, room, 0xAA) && writes(trial, full, room, 0x55)) {
             return room - from;
         }
     }
@@ -121,15 +107,8 @@ fn rooms(line: &mut Line<'_>, name: &[u8], untouched: usize, encoded: usize)
 }
 
 // ROOMS of a call that is to write these bytes, behind a text.
-// A closure has to be callable, which every one is that has no `requires` of its own.
 #[tactic(auto, using(crate::proofs::Kept::kept))]
-pub fn tried<F: Fn(&mut [u8]) -> Result<usize, Error>>(
-    call: &F,
-    full: &[u8],
-    line: &mut Line<'_>,
-    name: &[u8],
-)
-    requires { F.IsAlwaysCallable call.now }
+pub fn tried<T: Trial>(trial: &T, full: &[u8], line: &mut Line<'_>, name: &[u8])
     // The line keeps its length; its words are compared with the Rust, and not proved.
     ensures { length line.new.out.now ≡ length line.old.out.now }
 {
@@ -138,6 +117,6 @@ pub fn tried<F: Fn(&mut [u8]) -> Result<usize, Error>>(
         line.text(b" too long");
         return;
     }
-    let refused = refusing(call, 1, n + 4);
-    rooms(line, name, refused, writing(call, full, refused, n + 4));
+    let refused = refusing(trial, 1, n + 4);
+    rooms(line, name, refused, writing(trial, full, refused, n + 4));
 }

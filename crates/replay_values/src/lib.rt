@@ -5,9 +5,11 @@
 #![tactic(auto)]
 
 ghost use Rattle.std.specs.Prelude.{◌≡◌, length};
+ghost use Rattle.codec.specs.Buffer.{laid, written};
+ghost use Rattle.att_error.specs.Texts.{text_of};
 ghost use Rattle.text_print.specs.Lines.{behind, holding, Puts};
 ghost use Rattle.text_lines.specs.Words.{word_of};
-ghost use Rattle.ble_uuid.specs.Uuids.{own, raw_of, short_of, sliced, uuid_of};
+ghost use Rattle.ble_uuid.specs.Uuids.{short_of, sliced, uuid_of};
 ghost use Rattle.replay_base.specs.Base.{said};
 ghost use Rattle.replay_values.specs.Values.{number_texts, decoded_line, raw_said, short_said, uuid_texts, uuid_line, same_line};
 
@@ -15,12 +17,28 @@ use ble_uuid::{Raw, Uuid};
 use codec::Error;
 use primitives::Primitive;
 use replay_base::Digits;
+use replay_rooms::Trial;
 use text_print::Line;
 
+// The text of an error code, tried in rooms.
+#[derive(Clone, Copy)]
+struct TextOf {
+    code: u8,
+}
+
+impl Trial for TextOf {
+    ghost answer = { λ t out. written (text_of t.code) out };
+
+    ghost after = { λ t out. laid (text_of t.code) out };
+
+    fn write(&self, out: &mut [u8]) -> Result<usize, Error> {
+        att_text::write_text(self.code, out)
+    }
+}
+
 fn text_reply(code: u8, full: &[u8], reply: &mut Line<'_>) {
-    let call = |room: &mut [u8]| att_text::write_text(code, room);
     reply.decimal(full.len() as u64);
-    replay_rooms::tried(&call, full, reply, b" ");
+    replay_rooms::tried(&TextOf { code }, full, reply, b" ");
     reply.text(b" ");
     reply.text(full);
 }
@@ -118,27 +136,13 @@ fn short(reply: &mut Line<'_>, u: Uuid)
     }
 }
 
-// A UUID's own bytes, 00 behind them.
-// Kept: ble_uuid's own is private, and asks that sixteen bytes are enough (no plainer).
-fn own_raw(u: Uuid) -> Raw
-    ensures { result ≡ raw_of (own u) }
-{
-    let own = u.as_raw();
-    let mut bytes = [0u8; 16];
-    bytes[..own.len()].copy_from_slice(own);
-    Raw {
-        bytes,
-        len: own.len(),
-    }
-}
-
 fn uuid_reply(u: Uuid, reply: &mut Line<'_>)
     ensures { Puts (uuid_texts u) reply.old reply.new }
 {
     reply.decimal(8 * u.width() as u64);
     text_put::count(reply, b" ", u.get_att_type() as u64);
     raw(reply, u.att_bytes());
-    raw(reply, own_raw(u));
+    raw(reply, u.as_raw());
     short(reply, u);
 }
 
@@ -147,7 +151,7 @@ fn uuid_at(line: &[u8], k: usize) -> Result<Uuid, Error>
 {
     let mut buf = [0u8; 64];
     let n = replay_base::bytes(text_lines::word(line, k), &mut buf);
-    Uuid::try_from(&buf[..n])
+    ble_uuid::from_slice(&buf[..n])
 }
 
 fn uuid_or_not(line: &[u8], reply: &mut Line<'_>)

@@ -2,6 +2,7 @@
 use Rattle.std.specs.Prelude.{ℕ, ◌+◌, ◌-◌, Bool, true, List, [], ◌∷◌, ◌++◌, eqb, ltb}
 use Rattle.codec.specs.Ascii.{ascii}
 use Rattle.codec.specs.Cases.{pick}
+use Rattle.cursor.specs.Position.{left}
 use Rattle.text_put.specs.Put.{counting}
 
 -- no word, or one that begins with `=`
@@ -17,6 +18,6 @@ joint at = pick (eqb at 0) [] ((32 ∷ []) ∷ [])
 abbrev pub jumped_to : ℕ → ℕ → ℕ → ℕ
 jumped_to pos len n = pick (ltb len pos) pos (pick (ltb (18446744073709551615 - pos) n) pos (pos + n))
 
--- `@POSITION/AVAILABLE`
+-- `@POSITION/AVAILABLE`, of a cursor over `len` bytes
 abbrev pub place_texts : ℕ → ℕ → List (List ℕ)
-place_texts pos left = counting (ascii "@") pos ++ counting (ascii "/") left
+place_texts pos len = counting (ascii "@") pos ++ counting (ascii "/") (left pos len)

@@ -4,7 +4,8 @@
 // right is shown by oracle/ and by the stored run of replay.
 #![tactic(auto)]
 
-ghost use Rattle.std.specs.Prelude.{◌≡◌, length, unwrap_or};
+ghost use Rattle.std.specs.Prelude.{ℕ, ◌≡◌, length, unwrap_or};
+ghost use Rattle.cursor.specs.Position.{left};
 ghost use Rattle.text_hex.specs.Hex.{decimal_of};
 ghost use Rattle.text_print.specs.Lines.{Puts};
 ghost use Rattle.replay_walk.specs.Walks.{end_of, joint, place_texts, jumped_to};
@@ -19,10 +20,17 @@ use text_print::Line;
 // A cursor that is walked. It makes the step that a letter says, with what it is given behind it, and the
 // answer goes on the line.
 trait Walker {
+    // The cursor's position, and how many bytes it is over.
+    ghost pos: { Self → ℕ };
+
+    ghost len: { Self → ℕ };
+
     fn step(&mut self, word: &[u8], line: &mut Line<'_>);
 
-    // The cursor's position, and how many bytes it has left.
-    fn place(&self) -> (usize, usize);
+    // Its position, and how many bytes it has left.
+    fn place(&self) -> (usize, usize)
+        ensures position { result.0 ≡ pos self.now }
+        ensures available { result.1 ≡ left (pos self.now) (len self.now) };
 }
 
 fn refused(line: &mut Line<'_>, e: Error) {
@@ -69,14 +77,18 @@ fn part(line: &mut Line<'_>, part: Result<&[u8], Error>) {
 }
 
 impl<'d> Walker for ReadCursor<'d> {
+    ghost pos = { λ c. c.pos };
+
+    ghost len = { λ c. length c.«data».now };
+
     fn step(&mut self, word: &[u8], line: &mut Line<'_>) {
         let n = decimal(replay_base::tail(word));
         match replay_base::letter(word) {
             b'b' => number::<u8>(self, line),
             b'w' => number::<u16>(self, line),
             b'd' => number::<u32>(self, line),
-            b's' => part(line, self.slice(n)),
-            b'c' => part(line, self.consume(n)),
+            b's' => part(line, self.try_slice(n)),
+            b'c' => part(line, self.try_consume(n)),
             b'm' => line.hex(self.remaining()),
             b'z' => {
                 self.reset();
@@ -139,6 +151,10 @@ fn finished(cursor: &mut WriteCursor, line: &mut Line<'_>) {
 }
 
 impl<'d> Walker for WriteCursor<'d> {
+    ghost pos = { λ c. c.pos };
+
+    ghost len = { λ c. length c.«data».now };
+
     fn step(&mut self, word: &[u8], line: &mut Line<'_>) {
         let tail = replay_base::tail(word);
         let n = decimal(tail);
@@ -188,9 +204,10 @@ fn joined(line: &mut Line<'_>)
 
 // `@POSITION/AVAILABLE`.
 #[tactic(auto, unfolding(text_print::specs::Lines::behind, text_print::specs::Lines::holding))]
-fn place(line: &mut Line<'_>, pos: usize, left: usize)
-    ensures { Puts (place_texts pos left) line.old line.new }
+fn place<C: Walker>(line: &mut Line<'_>, cursor: &C)
+    ensures { Puts (place_texts (C.pos cursor.now) (C.len cursor.now)) line.old line.new }
 {
+    let (pos, left) = cursor.place();
     text_put::count(line, b"@", pos as u64);
     text_put::count(line, b"/", left as u64);
 }
@@ -205,8 +222,7 @@ fn walk<C: Walker>(cursor: &mut C, request: &[u8], line: &mut Line<'_>) {
         }
         joined(line);
         cursor.step(word, line);
-        let (pos, left) = cursor.place();
-        place(line, pos, left);
+        place(line, cursor);
     }
 }
 

@@ -1,6 +1,6 @@
 -- A walk over parts gives what the book's search gives, joined over the area, where each item by itself fits into the room and the
 -- area holds the room.
-use Rattle.std.specs.Prelude.{ℕ, ◌+◌, ◌-◌, ◌≤◌, Bool, ◌&&◌, ◌≡◌, drop, Option, Some, None, Result, Ok, Err}
+use Rattle.std.specs.Prelude.{ℕ, ◌+◌, ◌-◌, ◌≤◌, Bool, ◌&&◌, ◌≡◌, drop, Option, Some, None, Ok, Err}
 use Rattle.std.proofs.Math.Bool.{true, false}
 use Rattle.std.proofs.Math.Path.{refl, ap, subst}
 use Rattle.std.proofs.Common.{sym, ◌∙◌, drop-drop, take_at, drop_at}
@@ -21,8 +21,6 @@ use Rattle.answers.specs.Replies.{Part, keep, more, search}
 use Rattle.answers.specs.View.{View}
 use Rattle.serve_collect.specs.CollectLaws.{fit_here}
 use Rattle.serve_collect.specs.Collect.{Fits, FirstFits, Gathered, listed, failed, Walk, fit_at, spot_for, taken_at, taken, step, fold, is_ended, found_by, shown_found, shown_on}
-use Rattle.serve_collect.specs.declared.Failed.{Failed}
-use Rattle.serve_collect.specs.declared.Listed.{Listed}
 use Rattle.serve_collect.specs.declared.Progress.{Progress}
 use Rattle.serve_collect.specs.declared.Progress.TheVariants.{Seeking, Taking, Ended}
 
@@ -31,7 +29,7 @@ abbrev pub Ends : Walk → Gathered → List ℕ → Type 0
 Ends w x s = (found_by w.0 ≡ x) × (w.1 ≡ s)
 
 -- Behind its end nothing is added to a list: a search that goes on there has the same answer.
-ended_walk : (room : ℕ) (x : Result Listed Failed) (s : List ℕ) (ps : List Part) → fold (step room) (Ended x, s) ps ≡ (Ended x, s)
+ended_walk : (room : ℕ) (x : Gathered) (s : List ℕ) (ps : List Part) → fold (step room) (Ended x, s) ps ≡ (Ended x, s)
 unfolding taken
 ended_walk room x s [] = refl
 ended_walk room x s (book.Skip ∷ ps) = ended_walk room x s ps
@@ -94,7 +92,7 @@ module _ (room : ℕ) (area : List ℕ) (holds : room ≤ length area) where
       let k : length b + length x ≤ length (over b area) = rw (over_length b area (omega arith)) (omega arith) in
       rw (le-leb _ _ k, take_at b (drop (length b) area) (length b) refl, drop_at b (drop (length b) area) (length b) refl, drop-drop, length-append, append_assoc)
 
-  ends : (x : Result Listed Failed) (s : List ℕ) (ps : List Part) → Ends (fold (step room) (Ended x, s) ps) (Some x) s
+  ends : (x : Gathered) (s : List ℕ) (ps : List Part) → Ends (fold (step room) (Ended x, s) ps) x s
   ends x s ps = let e = ended_walk room x s ps in (ap (λ (w : Walk). found_by w.0) e, ap (λ (w : Walk). w.1) e)
 
   -- the list so far and no more, or with one item more
@@ -147,9 +145,9 @@ module _ (room : ℕ) (area : List ℕ) (holds : room ≤ length area) where
           subst
           (λ (i : ℕ). With (fold (step room) (Taking (listed (length x) (length b + length x)), laid_at (length b) x (over b area)) ps) n (b ++ (x ++ joined (more n i ps))))
           k (another n b x (joined (more n (room - length (b ++ x)) ps)) ps e (omega arith) (ih j))
-      fitting false q ih = none_more (fold (step room) (Ended (Ok (listed n (length b))), over b area) ps) n b (ends (Ok (listed n (length b))) (over b area) ps)
+      fitting false q ih = none_more (fold (step room) (Ended (Some (Ok (listed n (length b)))), over b area) ps) n b (ends (Some (Ok (listed n (length b)))) (over b area) ps)
   taking n b (book.Fail a code ∷ ps) h =
-      none_more (fold (step room) (Ended (Ok (listed n (length b))), over b area) ps) n b (ends (Ok (listed n (length b))) (over b area) ps)
+      none_more (fold (step room) (Ended (Some (Ok (listed n (length b)))), over b area) ps) n b (ends (Some (Ok (listed n (length b)))) (over b area) ps)
 
   first_at : (x : List ℕ) → length x ≤ room → ◌≡◌ {A = Walk} (taken room x Seeking area) (Taking (listed (length x) (length x)), over x area)
   unfolding taken
@@ -167,4 +165,4 @@ module _ (room : ℕ) (area : List ℕ) (holds : room ≤ length area) where
   search_is (book.Take x ∷ ps) a =
       subst (λ (w : Walk). With (fold (step room) w ps) (length x) (x ++ joined (more (length x) (room - length x) ps))) (sym (first_at x a))
       (taking (length x) x ps a)
-  search_is (book.Fail h n ∷ ps) a = ends (Err (failed h (code n))) area ps
+  search_is (book.Fail h n ∷ ps) a = ends (Some (Err (failed h (code n)))) area ps

@@ -45,12 +45,12 @@ spot_for room len (Ended x) = None
 
 abbrev pub stopped : Progress → Progress
 stopped Seeking = Seeking
-stopped (Taking x) = Ended (Ok x)
+stopped (Taking x) = Ended (Some (Ok x))
 stopped (Ended x) = Ended x
 
 abbrev pub failing : ℕ → AttErrorCode → Progress → Progress
-failing h c Seeking = Ended (Err (failed h c))
-failing h c (Taking x) = Ended (Ok x)
+failing h c Seeking = Ended (Some (Err (failed h c)))
+failing h c (Taking x) = Ended (Some (Ok x))
 failing h c (Ended x) = Ended x
 
 abbrev pub taken_at : Option ℕ → List ℕ → Progress → List ℕ → Walk
@@ -92,7 +92,7 @@ is_ended (Ended x) = true
 abbrev pub found_by : Progress → Gathered
 found_by Seeking = None
 found_by (Taking x) = Some (Ok x)
-found_by (Ended x) = Some x
+found_by (Ended x) = x
 
 abbrev pub shown_found : book.Found → Gathered
 shown_found book.None = None

@@ -29,7 +29,7 @@ pub struct Failed {
 pub enum Progress {
     Seeking,
     Taking(Listed),
-    Ended(Result<Listed, Failed>),
+    Ended(Option<Result<Listed, Failed>>),
 }
 
 // An item's first bytes: a handle, or a handle and the end of its group.
@@ -62,8 +62,8 @@ pub fn fail(state: Progress, handle: u16, code: AttErrorCode) -> Progress
     ensures { result ≡ failing handle code state }
 {
     match state {
-        Progress::Seeking => Progress::Ended(Err(Failed { handle, code })),
-        Progress::Taking(list) => Progress::Ended(Ok(list)),
+        Progress::Seeking => Progress::Ended(Some(Err(Failed { handle, code }))),
+        Progress::Taking(list) => Progress::Ended(Some(Ok(list))),
         Progress::Ended(_) => state,
     }
 }
@@ -82,7 +82,7 @@ pub fn result(state: Progress) -> Option<Result<Listed, Failed>>
     match state {
         Progress::Seeking => None,
         Progress::Taking(list) => Some(Ok(list)),
-        Progress::Ended(found) => Some(found),
+        Progress::Ended(found) => found,
     }
 }
 
@@ -91,7 +91,7 @@ fn stop(state: Progress) -> Progress
     ensures { result ≡ stopped state }
 {
     match state {
-        Progress::Taking(list) => Progress::Ended(Ok(list)),
+        Progress::Taking(list) => Progress::Ended(Some(Ok(list))),
         _ => state,
     }
 }

@@ -26,7 +26,7 @@ pub fn group_end(table: &Table, handle: u16) -> u16
 fn opens_group(r: Record) -> bool
     ensures { result ≡ groups (own r.kind) }
 {
-    is_group(r.kind.as_raw())
+    is_group(r.kind.own_bytes())
 }
 
 fn end_among(records: &[Record], handle: u16) -> u16

@@ -84,7 +84,7 @@ pub fn read_by_type(
         ask,
         from,
         to,
-        kind: kind.on_air(),
+        kind: kind.air_bytes(),
         value: &[],
     };
     list(query, lent, out)

@@ -29,7 +29,7 @@ pub fn may_read(r: Record, encrypted: bool) -> Result<(), AttErrorCode>
 pub fn has_type(r: Record, kind: &[u8]) -> bool
     ensures { result ≡ equal_types (own r.kind) kind.now }
 {
-    ble_uuid::equal_types(r.kind.as_raw(), kind)
+    ble_uuid::equal_types(r.kind.own_bytes(), kind)
 }
 
 // Whether the whole value is this one.

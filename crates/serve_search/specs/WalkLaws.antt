@@ -12,16 +12,17 @@ use Rattle.std.proofs.Math.Dec.{leb}
 use borrow.Author.Tests.{le-leb, lt-leb}
 use Rattle.codec.specs.Cases.{pick}
 use Rattle.ble_uuid.specs.Uuids.{own}
+use Rattle.ble_uuid.specs.UuidsLaws.{own_most}
 use Rattle.attributes.specs.Ledger.{item}
 use Rattle.attributes.specs.Lists.{Each}
 use Rattle.attributes.specs.Records.{entries, value_of}
 use Rattle.attributes.specs.declared.Record.{Record}
-use Rattle.answers.proofs.Lists.{each_map}
+use Rattle.answers.proofs.Lists.{each, each_map}
 use Rattle.answers.specs.Replies as book
 use Rattle.answers.specs.Replies.{Part, info, keep, in_range, mtu_ok}
 use Rattle.answers.specs.Serve.{State, ledger, views}
 use Rattle.answers.specs.View.{View, view, views_of}
-use Rattle.serve_link.specs.LinkLaws.{legal_most}
+use Rattle.serve_link.specs.LinkLaws.{legal_least, legal_most}
 use Rattle.serve_collect.proofs.GatherLaws.{Ends, ended_stays, each_first, ended_first, fold_append, fold_keep, first_keep, search_is}
 use Rattle.serve_collect.specs.CollectLaws.{head_most}
 use Rattle.serve_collect.specs.Collect.{Fits, FirstFits, Gathered, Walk, head_of, taken, step, fold, is_ended, found_by, shown_found, shown_on}
@@ -91,11 +92,11 @@ module _ (q : Asked) (s : State) where
   given_all [] = refl
   given_all (r ∷ rs) = ap (λ (ps : List Part). given_by q s r ∷ ps) (given_all rs)
 
-  -- the whole walk
-  walk_is : (area : List ℕ) → s.link.mtu ≤ 247 → 247 ≤ length area → FirstFits (room_for q.ask s.link) (map (given_by q s) (entries s.table))
+  -- the whole walk, where the first item fits
+  walk_first : (area : List ℕ) → s.link.mtu ≤ 247 → 247 ≤ length area → FirstFits (room_for q.ask s.link) (map (given_by q s) (entries s.table))
       → Ends (walked q s (entries s.table) area) (shown_found (found_for q (views s) s.link)) (shown_on area (found_for q (views s) s.link))
   unfolding given in_range ledger
-  walk_is area k h first =
+  walk_first area k h first =
       let f : View → Part = part_for q.ask q.kind q.value (views s) s.link in
       let room : ℕ = room_for q.ask s.link in
       let test : View → Bool = λ v. leb q.from v.handle && leb v.handle q.to in
@@ -105,6 +106,15 @@ module _ (q : Asked) (s : State) where
       subst (λ (w : Walk). Ends w (shown_found (found_for q vs s.link)) (shown_on area (found_for q vs s.link)))
       (fold_keep room f test (Seeking, area) vs ∙ ap (λ (ps : List Part). fold (step room) (Seeking, area) ps) all)
       (search_is room area (omega (arith, room_most q.ask k)) (map f (in_range q.from q.to vs)) fits)
+
+  -- the whole walk: every item fits
+  walk_is : (area : List ℕ) → 23 ≤ s.link.mtu → s.link.mtu ≤ 247 → 247 ≤ length area
+      → Ends (walked q s (entries s.table) area) (shown_found (found_for q (views s) s.link)) (shown_on area (found_for q (views s) s.link))
+  walk_is area m k h =
+      let rs : List Record = entries s.table in
+      let fits : Each (λ (r : Record). Fits (room_for q.ask s.link) (given_by q s r)) rs =
+      each (λ (r : Record). Fits (room_for q.ask s.link) (given_by q s r)) rs (λ r. given_fits r m (own_most r.kind)) in
+      walk_first area k h (each_first (room_for q.ask s.link) (map (given_by q s) rs) (each_map (Fits (room_for q.ask s.link)) (given_by q s) rs fits))
 
   -- The records so far, with one more.
   abbrev room : ℕ
@@ -150,15 +160,14 @@ module _ (q : Asked) (s : State) where
       (each_map (Fits room) (given_by q s) rs (subst (λ (l : List Record). Each (λ (r : Record). Fits room (given_by q s r)) l) (take_all i rs h) a))
 
   -- what is handed back of it
-  pub listing_is : (w : Walk) (x : Gathered) → mtu_ok s.link.mtu ≡ true → walked q s (entries s.table) no_items ≡ w
-      → FirstFits (room_for q.ask s.link) (map (given_by q s) (entries s.table)) → x ≡ found_by w.0
+  pub listing_is : (w : Walk) (x : Gathered) → mtu_ok s.link.mtu ≡ true → w ≡ walked q s (entries s.table) no_items → x ≡ found_by w.0
       → ◌≡◌ {A = Listing} (record { found = x; items = w.1 }) (listing_for q s)
   unfolding listing_for no_items
-  listing_is w x m e first f =
+  listing_is w x m e f =
       let n : 247 ≤ length no_items = omega (arith, length-replicate {A = ℕ} 247 0) in
-      let t = walk_is no_items (legal_most s.link.mtu m) n first in
-      let g : x ≡ shown_found (found_for q (views s) s.link) = f ∙ ap (λ (v : Walk). found_by v.0) (sym e) ∙ t.0 in
-      let i : w.1 ≡ shown_on no_items (found_for q (views s) s.link) = ap (λ (v : Walk). v.1) (sym e) ∙ t.1 in
+      let t = walk_is no_items (legal_least s.link.mtu m) (legal_most s.link.mtu m) n in
+      let g : x ≡ shown_found (found_for q (views s) s.link) = f ∙ ap (λ (v : Walk). found_by v.0) e ∙ t.0 in
+      let i : w.1 ≡ shown_on no_items (found_for q (views s) s.link) = ap (λ (v : Walk). v.1) e ∙ t.1 in
       rw (m, g, i)
 
   pub listing_none : mtu_ok s.link.mtu ≡ false → ◌≡◌ {A = Listing} (record { found = None; items = no_items }) (listing_for q s)

@@ -129,7 +129,7 @@ fn tail<'a>(ask: Ask, r: &'a Record, lent: Lent<'a>) -> &'a [u8]
 {
     let mtu = usize::from(lent.link.mtu);
     match ask {
-        Ask::Info => r.kind.as_raw(),
+        Ask::Info => r.kind.own_bytes(),
         Ask::Pair => &[],
         Ask::Typed => {
             let value = table_records::value(r.place, lent.fixed, lent.live);

@@ -6,7 +6,7 @@ use Rattle.std.proofs.lemmas.Bool.{lt-leb, lt-ltb, le-ltb}
 use Rattle.codec.specs.declared.Refusal.{Refusal}
 use Rattle.codec.specs.declared.Refusal.TheVariants.{TableFull, BadHandle, BadType, BadValue, NoRoom, UnknownHandle, BadTable}
 use Rattle.attributes.specs.Additions.{changed_by, empty_table, new_table, last_handle, used, fresh, add_refusal, appended, added}
-use Rattle.attributes.specs.FindLaws.{item_first, missing_gives, found_gives}
+use Rattle.attributes.specs.FindLaws.{item_first, missing_in, found_gives}
 use Rattle.attributes.specs.Ledger.{Item, lookup_refusal, looked_up}
 use Rattle.attributes.specs.Records.{entries, find_in}
 use Rattle.attributes.specs.Soundness.{type_ok, value_ok, space_ok, sound_table}
@@ -86,7 +86,7 @@ module _ (t : Table) (h : ℕ) (fixed live : List ℕ) where
     unfolding lookup_refusal
     look_missing e =
         rw s (sym (item_first fixed live h (λ (i : Item). Ok tt) (Err UnknownHandle) (entries t)
-        ∙ missing_gives h (λ (r : Record). Ok tt) (Err UnknownHandle) (entries t) e))
+        ∙ missing_in h (λ (r : Record). Ok tt) (Err UnknownHandle) (entries t) e))
 
     pub look_there : (i : ℕ) (d : Record) → find_in h (entries t) ≡ Some i → Ok tt ≡ lookup_refusal t h fixed live
     unfolding lookup_refusal

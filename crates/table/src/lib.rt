@@ -9,8 +9,9 @@
 ghost use Rattle.std.specs.Prelude.{◌≡◌, length};
 ghost use Rattle.attributes.specs.Soundness.{sound_table};
 ghost use Rattle.attributes.specs.Ledger.{lookup_refusal, looked_up};
-ghost use Rattle.attributes.specs.Additions.{empty_table, new_table, fresh_place, fresh, added};
-ghost use Rattle.attributes.specs.Stores.{stored, stored_live};
+ghost use Rattle.attributes.specs.Records.{entries};
+ghost use Rattle.attributes.specs.Additions.{empty_table, new_table, used, fresh_place, fresh, add_refusal, appended, added, table_after, left_by};
+ghost use Rattle.attributes.specs.Stores.{own_refusal, relengthed, stored, stored_live};
 
 use attributes::{Addition, Place, Record, Room, Table};
 use codec::Refusal;
@@ -44,7 +45,9 @@ pub fn sound_for(t: Table, fixed_len: usize, live_len: usize) -> bool
 // An attribute more. The first of the tests 11, 3, 4, 5, 6 and 7 that fails is the refusal.
 #[tactic(auto, unfolding(attributes::specs::Additions::added, attributes::specs::Additions::add_refusal, table_rules::specs::Walks::walked_table))]
 pub fn add(t: Table, a: Addition, fixed: &[u8], live: &[u8]) -> Result<Table, Refusal>
-    ensures { result ≡ added t a (length fixed.now) (length live.now) }
+    ensures value { result ≡ added t a (length fixed.now) (length live.now) }
+    ensures table_after { table_after t result
+        ≡ left_by (add_refusal t a (length fixed.now) (length live.now)) (appended t (fresh (used 0 (entries t)) a)) t }
 {
     let walked = table_rules::walk(t, fixed.len(), live.len()).ok_or(Refusal::BadTable)?;
     if 64 <= t.count {
@@ -97,6 +100,7 @@ pub fn lookup_refusal(t: Table, handle: u16, fixed: &[u8], live: &[u8]) -> Resul
 
 // The till's own store: value and length are set whatever the marks. The first of the tests 11, 8, 9
 // and 10 that fails is the refusal.
+#[tactic(auto, unfolding(attributes::specs::Stores::stored), using(attributes::proofs::AdditionLaws::left_after))]
 pub fn store(
     t: Table,
     handle: u16,
@@ -105,6 +109,8 @@ pub fn store(
     live: &mut [u8],
 ) -> Result<Table, Refusal>
     ensures value { result ≡ stored t handle value.now fixed.now live.old }
+    ensures table_after { table_after t result
+        ≡ left_by (own_refusal t handle (length value.now) fixed.now live.old) (relengthed t handle (length value.now)) t }
     ensures live_after { live.new ≡ stored_live t handle value.now fixed.now live.old }
 {
     table_store::store(t, handle, value, fixed, live)

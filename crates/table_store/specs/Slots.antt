@@ -1,6 +1,6 @@
 -- What the private function answers: a store into a record that was found.
 use Rattle.std.specs.Prelude.{ℕ, ◌+◌, List, Result, length, set, slice_index_or}
-use Rattle.codec.specs.Buffer.{over_at}
+use Rattle.codec.specs.Buffer.{laid_at}
 use Rattle.codec.specs.declared.Refusal.{Refusal}
 use Rattle.attributes.specs.Additions.{blank, changed_by}
 use Rattle.attributes.specs.Records.{slot_of, start, lengthened}
@@ -22,9 +22,9 @@ slot_end (Live a c n) = a + c
 abbrev pub with_record : Table → ℕ → Record → Table
 with_record t i r = record { records = set t.records i r; count = t.count; fixed_len = t.fixed_len; live_len = t.live_len }
 
--- a store into the record with the number `i`
-unfoldable pub stored_as : Table → ℕ → List ℕ → Result Table Refusal
-stored_as t i v = changed_by (slot_refusal (length v) (slot_of (numbered t i).place)) (with_record t i (lengthened (numbered t i) (length v)))
+-- a store into the record `r`, which has the number `i`
+unfoldable pub stored_as : Table → ℕ → Record → List ℕ → Result Table Refusal
+stored_as t i r v = changed_by (slot_refusal (length v) (slot_of r.place)) (with_record t i (lengthened r (length v)))
 
-unfoldable pub stored_as_live : Table → ℕ → List ℕ → List ℕ → List ℕ
-stored_as_live t i v live = live_by (slot_refusal (length v) (slot_of (numbered t i).place)) (over_at (start (numbered t i).place) v live) live
+unfoldable pub stored_as_live : Record → List ℕ → List ℕ → List ℕ
+stored_as_live r v live = live_by (slot_refusal (length v) (slot_of r.place)) (laid_at (start r.place) v live) live

@@ -29,12 +29,12 @@ pub fn store(
 }
 
 // A value into the slot of the record with the number `i`, which lies inside the live bytes.
-#[tactic(auto, unfolding(crate::specs::Slots::stored_as, crate::specs::Slots::stored_as_live))]
+#[tactic(auto, unfolding(crate::specs::Slots::stored_as, crate::specs::Slots::stored_as_live), using(codec::specs::BufferLaws::laid_at_lem))]
 fn store_record(t: Table, i: usize, value: &[u8], live: &mut [u8]) -> Result<Table, Refusal>
     requires counts { i < 64 }
     requires slot { slot_end (numbered t i).place ≤ length live.old }
-    ensures value { result ≡ stored_as t i value.now }
-    ensures live_after { live.new ≡ stored_as_live t i value.now live.old }
+    ensures value { result ≡ stored_as t i (numbered t i) value.now }
+    ensures live_after { live.new ≡ stored_as_live (numbered t i) value.now live.old }
 {
     match t.records[i].place {
         Place::Fixed { .. } => Err(Refusal::NotStorable),

@@ -4,7 +4,7 @@
 // stored runs show it. A read or a write that fails is an error of the system's, which ends the program.
 #![tactic(auto)]
 
-ghost use Rattle.std.specs.Prelude.{◌≡◌, false, [], ◌∷◌, length, replicate, IfOk};
+ghost use Rattle.std.specs.Prelude.{◌≡◌, false, [], ◌∷◌, length, replicate, min, ◌≤◌, IfOk, IfErr};
 ghost use Rattle.text_print.specs.Lines.{behind, Puts};
 ghost use Rattle.text_put.specs.Put.{complaint_texts};
 
@@ -64,14 +64,17 @@ pub fn start() -> Input
 }
 
 // The next byte of the input, which is read into the lent buffer where none is left there; none at its
-// end.
+// end. A read that fails leaves the reading where it was, behind the last byte that was given.
 fn byte(mut from: Stdin, input: &mut Input, buf: &mut [u8]) -> io::Result<Option<u8>>
-    ensures { length buf.new ≡ length buf.old }
+    ensures buf_length { length buf.new ≡ length buf.old }
+    ensures input_on_err { IfErr result (λ e. input.new ≡ input.old) }
+    ensures none_left { IfErr result (λ e. min input.old.end (length buf.old) ≤ input.old.at) }
 {
     if input.end.min(buf.len()) <= input.at {
+        let n = from.read(buf)?;
         input.at = 0;
-        input.end = from.read(buf)?;
-        if input.end == 0 {
+        input.end = n;
+        if n == 0 {
             input.ended = true;
             return Ok(None);
         }
@@ -87,7 +90,8 @@ fn byte(mut from: Stdin, input: &mut Input, buf: &mut [u8]) -> io::Result<Option
 // run uses up.
 //
 // What is read may be anything, so the contract has what holds of every read: the two buffers are as
-// long as before.
+// long as before, and a read that fails leaves nothing in `buf` that is still to be given, so that the
+// next call goes on behind what was given.
 pub fn next(
     from: Stdin,
     input: &mut Input,
@@ -96,6 +100,7 @@ pub fn next(
 ) -> io::Result<Option<Came>>
     ensures buf_length { length buf.new ≡ length buf.old }
     ensures line_length { length line.new ≡ length line.old }
+    ensures none_left { IfErr result (λ e. min input.new.end (length buf.new) ≤ input.new.at) }
 {
     for _ in 0..u64::MAX {
         if input.ended {

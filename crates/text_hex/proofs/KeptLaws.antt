@@ -58,8 +58,11 @@ module _ (a b i : ℕ) (text : List ℕ) (h : i < length text) where
   unfolding without
   keeps n m = rw (next_character text i h, ne_eqb a (get_or text i 0) (λ s. n (sym s)), ne_eqb b (get_or text i 0) (λ s. m (sym s)))
 
-pub nothing_kept : (passed text : List ℕ) → Next passed text None → without passed text ≡ []
-nothing_kept passed text s = s
+-- nothing is kept from a place on, where as much is kept as from the text's end on
+pub nothing_kept : (passed text : List ℕ) (from to : ℕ) → without passed (drop to text) ≡ without passed (drop from text) → length text ≤ to
+    → without passed (drop from text) ≡ []
+unfolding without
+nothing_kept passed text from to s h = sym s ∙ rw (drop_of_length-le text h)
 
 pub scanned_digit : (n c : ℕ) (cs ds : List ℕ) → cs ≡ c ∷ ds → digit c < 16 → scanned n cs ≡ scanned (n + 1) ds
 unfolding below

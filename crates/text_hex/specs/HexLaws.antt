@@ -135,14 +135,29 @@ two c d at cs all g r =
     let u = uncons all at (digit c * 16 + digit d) (pairs (values cs)) (sym r) in
     record { upper = x.0; lower = y.0; good = y.1; inside = u.0; here = u.1.0; rest = sym u.1.1 }
 
-module _ (passed left all before out : List ℕ) (at : ℕ) (f : Filling passed left all before out at) where
-  pub next_two : (c d : ℕ) (l m : List ℕ) → without passed left ≡ c ∷ without passed l → without passed l ≡ d ∷ without passed m
-      → Two c d at (without passed m) all
-  next_two c d l m p q =
+-- where the bytes of what is left of a text are those of `all` from `at` on: the next two digits; no digit is left, or one alone, which
+-- is no byte, and then no byte is left
+module _ (passed left all : List ℕ) (at : ℕ) (r : pairs (values (without passed left)) ≡ drop at all) where
+  pub next_two : below 16 (values (without passed left)) ≡ true → (c d : ℕ) (l m : List ℕ) → without passed left ≡ c ∷ without passed l
+      → without passed l ≡ d ∷ without passed m → Two c d at (without passed m) all
+  next_two g c d l m p q =
       let e : without passed left ≡ c ∷ d ∷ without passed m = rw p (ap (λ (k : List ℕ). c ∷ k) q) in
       two c d at (without passed m) all
-      (sym (ap (λ (k : List ℕ). below 16 (values k)) e) ∙ f.good)
-      (sym (ap (λ (k : List ℕ). pairs (values k)) e) ∙ f.rest)
+      (sym (ap (λ (k : List ℕ). below 16 (values k)) e) ∙ g)
+      (sym (ap (λ (k : List ℕ). pairs (values k)) e) ∙ r)
+
+  pub none_left : without passed left ≡ [] → drop at all ≡ []
+  unfolding pairs
+  none_left e = sym r ∙ ap (λ (k : List ℕ). pairs (values k)) e
+
+  pub odd_one : (c : ℕ) (l : List ℕ) → without passed left ≡ c ∷ without passed l → without passed l ≡ [] → drop at all ≡ []
+  unfolding pairs
+  odd_one c l p q = sym r ∙ ap (λ (k : List ℕ). pairs (values k)) (p ∙ ap (λ (k : List ℕ). c ∷ k) q)
+
+module _ (passed left all before out : List ℕ) (at : ℕ) (f : Filling passed left all before out at) where
+  pub two_to_put : (c d : ℕ) (l m : List ℕ) → without passed left ≡ c ∷ without passed l → without passed l ≡ d ∷ without passed m
+      → Two c d at (without passed m) all
+  two_to_put c d l m p q = next_two passed left all at f.rest f.good c d l m p q
 
   -- a turn's store takes the first bytes of `all` to one more
   pub one_more : (c d v : ℕ) (m : List ℕ) → Two c d at (without passed m) all → v ≡ digit c * 16 + digit d → Filling passed m all before (set out at v) (at + 1)
@@ -165,14 +180,12 @@ module _ (passed left all before out : List ℕ) (at : ℕ) (f : Filling passed 
       let n : at ≡ length all = omega (arith, length-drop at all, ap length e, f.inside) in
       f.put ∙ rw (n, take-length)
 
-  -- no digit is left, or one alone, which is no byte
-  pub none_left : without passed left ≡ [] → out ≡ over all before
-  unfolding pairs
-  none_left e = all_put (sym f.rest ∙ ap (λ (k : List ℕ). pairs (values k)) e)
+  -- no digit is left, or one alone: all bytes are put
+  pub none_left_put : without passed left ≡ [] → out ≡ over all before
+  none_left_put e = all_put (none_left passed left all at f.rest e)
 
-  pub odd_one : (c : ℕ) (l : List ℕ) → without passed left ≡ c ∷ without passed l → without passed l ≡ [] → out ≡ over all before
-  unfolding pairs
-  odd_one c l p q = all_put (sym f.rest ∙ ap (λ (k : List ℕ). pairs (values k)) (p ∙ ap (λ (k : List ℕ). c ∷ k) q))
+  pub odd_one_put : (c : ℕ) (l : List ℕ) → without passed left ≡ c ∷ without passed l → without passed l ≡ [] → out ≡ over all before
+  odd_one_put c l p q = all_put (odd_one passed left all at f.rest c l p q)
 
 -- what counting the digits of a text says of it
 pub counted : (ds : List ℕ) (n : ℕ) → Some n ≡ scanned 0 ds → (below 16 (values ds) ≡ true) × (length ds ≡ n)

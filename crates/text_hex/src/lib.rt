@@ -1,7 +1,8 @@
 // What a person types for bytes, numbers and types.
 #![tactic(auto)]
 
-ghost use Rattle.std.specs.Prelude.{◌≤◌, ◌<◌, ◌≡◌, true, length, IfSome};
+ghost use Rattle.std.specs.Prelude.{◌≤◌, ◌<◌, ◌≡◌, true, eqb, length, IfSome};
+ghost use Rattle.std.specs.List.{list_any};
 ghost use Rattle.codec.specs.Buffer.{over};
 ghost use Rattle.text_hex.specs.Hex.{digit as Hex·digit, digit_in, values, below, pairs, without, unblanked, is_dash, hex_means, answered, filled, digits_mean};
 ghost use Rattle.text_hex.specs.Hex.{number_in, decimal_of, handle_of, outline as Hex·outline, hyphened, type_of};
@@ -35,13 +36,25 @@ fn value(c: u8) -> u8
     digit(c, 16).unwrap() as u8
 }
 
+// Whether a character is passed over. One or two such characters, as the programs have them, are asked for in
+// place; `contains` may be a call for each character of a text.
+fn is_passed(c: u8, passed: &[u8]) -> bool
+    ensures { result ≡ list_any (λ d. eqb d c) passed.now }
+{
+    match passed {
+        [a] => *a == c,
+        [a, b] => *a == c || *b == c,
+        _ => passed.contains(&c),
+    }
+}
+
 // The first character of a text that is not passed over, and what stands behind it.
 #[tactic(auto, unfolding(crate::specs::Hex::without))]
 fn next<'a>(text: &'a [u8], passed: &[u8]) -> Option<(u8, &'a [u8])>
     ensures { Next passed.now text.now result }
 {
     for (i, c) in text.iter().enumerate() {
-        if !passed.contains(c) {
+        if !is_passed(*c, passed) {
             return Some((*c, &text[i + 1..]));
         }
     }
@@ -55,7 +68,7 @@ fn count_digits(text: &[u8], passed: &[u8]) -> Option<usize>
 {
     let mut n = 0;
     for c in text {
-        if !passed.contains(c) {
+        if !is_passed(*c, passed) {
             digit(*c, 16)?;
             n += 1;
         }
@@ -72,7 +85,7 @@ fn is_dash(text: &[u8]) -> bool
 
 // The bytes of the digits of a text at the start of out.
 // Kept: by a place counted on: what is written through `iter_mut` is not known afterwards (tried).
-#[tactic(auto, using(crate::specs::HexLaws::none_left, crate::specs::HexLaws::odd_one))]
+#[tactic(auto, using(crate::specs::HexLaws::none_left_put, crate::specs::HexLaws::odd_one_put))]
 fn fill(text: &[u8], passed: &[u8], out: &mut [u8])
     requires text_value { below 16 (values (without passed.now text.now)) ≡ true }
     requires text_in_bounds { length (pairs (values (without passed.now text.now))) ≤ length out.old }

@@ -6,7 +6,7 @@ use Rattle.explain_items.proofs.range.Goals as goal
 
 pub returns-in_err-handle-clause-line_after : goal.returns-in_err-handle-clause-line_after
 returns-in_err-handle-clause-line_after c =
-    puts_none _ c.args.line.now (range_end ranges.texts (step_in ranges c.args.att c.args.src.now c.args.pos) c.args.src.now c.in_err-handle.ensures)
+    puts_none _ c.args.line.now (range_end ranges.texts (step_in ranges c.args.att c.args.src.now c.args.pos) c.args.src.now c.in_err-handle.ensures).0
 
 pub returns-clause-line_after : goal.returns-clause-line_after
 returns-clause-line_after c =

@@ -18,4 +18,4 @@ returns c =
     puts_then _ _ a d h (number_as a d _ _ (ap (λ (n : ℕ). 8 * n) c.width.ensures) c.decimal.ensures)
     (puts_then _ _ d e h (count_as d e _ _ c.get_att_type.ensures c.count.ensures)
     (puts_then _ _ e f h (raw_as e f _ (att_bytes u) c.att_bytes.ensures c.raw.ensures)
-    (puts_then _ _ f g h (raw_as f g _ (own u) c.own_raw.ensures c.raw-2.ensures) c.short.ensures)))
+    (puts_then _ _ f g h (raw_as f g _ (own u) c.as_raw.ensures c.raw-2.ensures) c.short.ensures)))

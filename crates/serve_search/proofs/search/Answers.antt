@@ -19,4 +19,4 @@ walk-state-requires-clause-mtu_bound c = legal_most _ (sym c.if-not-legal_mtu.en
 pub returns : goal.returns
 unfolding no_items
 returns c =
-    listing_is (asked c.args.query) (lent_state c.args.lent) (_, _) _ (sym c.if-not-legal_mtu.ensures) c.walk-state.ensures.walk c.walk-state.ensures.fits c.result.ensures
+    listing_is (asked c.args.query) (lent_state c.args.lent) (_, _) _ (sym c.if-not-legal_mtu.ensures) (sym c.walk-state.ensures.walk) c.result.ensures
