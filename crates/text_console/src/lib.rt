@@ -101,6 +101,7 @@ pub fn next(
     ensures buf_length { length buf.new ≡ length buf.old }
     ensures line_length { length line.new ≡ length line.old }
     ensures none_left { IfErr result (λ e. min input.new.end (length buf.new) ≤ input.new.at) }
+    ensures goes_on { IfErr result (λ e. input.new.ended ≡ false) }
 {
     for _ in 0..u64::MAX {
         if input.ended {
