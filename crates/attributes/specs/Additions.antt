@@ -108,6 +108,10 @@ appended t r = record {
 unfoldable pub added : Table → Addition → ℕ → ℕ → Result Table Refusal
 added t a fl ll = changed_by (add_refusal t a fl ll) (appended t (fresh (used 0 (entries t)) a))
 
+-- the table that a caller has after an addition: with one record more, or its own where it was refused
+abbrev pub added_table : Table → Addition → ℕ → ℕ → Table
+added_table t a fl ll = left_by (add_refusal t a fl ll) (appended t (fresh (used 0 (entries t)) a)) t
+
 -- The attribute that an addition makes, as the ledger has it: the slot's place does not show, and a live value is empty.
 abbrev pub fresh_item : List ℕ → Addition → Item
 fresh_item fixed a = holding (fresh 0 a) (value_of (fresh_place 0 a.room) fixed [])

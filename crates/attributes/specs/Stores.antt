@@ -5,7 +5,7 @@ use Rattle.codec.specs.Buffer.{over_at}
 use Rattle.codec.specs.Cases.{pick}
 use Rattle.codec.specs.declared.Refusal.{Refusal}
 use Rattle.codec.specs.declared.Refusal.TheVariants.{UnknownHandle, NotStorable, TooLong, BadTable}
-use Rattle.attributes.specs.Additions.{tested, changed_by}
+use Rattle.attributes.specs.Additions.{tested, changed_by, left_by}
 use Rattle.attributes.specs.Ledger.{Item, ledger_of, valued, item_at}
 use Rattle.attributes.specs.Records.{Slot, Kept, Room, entries, slot_of, fits, is_room, start, lengthened}
 use Rattle.attributes.specs.Soundness.{sound_table}
@@ -73,6 +73,10 @@ store_refusal h n is = item_at h (λ i. slot_refusal n i.slot) (Err UnknownHandl
 
 unfoldable pub stored : Table → ℕ → List ℕ → List ℕ → List ℕ → Result Table Refusal
 stored t h v fixed live = changed_by (own_refusal t h (length v) fixed live) (relengthed t h (length v))
+
+-- the table that a caller has after it: with the new length, or its own where it was refused
+abbrev pub stored_table : Table → ℕ → List ℕ → List ℕ → List ℕ → Table
+stored_table t h v fixed live = left_by (own_refusal t h (length v) fixed live) (relengthed t h (length v)) t
 
 -- the live bytes after it; a refusal leaves them as they were
 abbrev pub live_by : Result Unit Refusal → List ℕ → List ℕ → List ℕ

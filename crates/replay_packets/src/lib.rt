@@ -13,7 +13,7 @@ use att::{ATT_READ_BY_TYPE_REQ, Att, AttClient, AttReq, Span};
 use att_layout::Follows;
 use ble_uuid::Uuid;
 use codec::{Error, Refusal};
-use replay_rooms::Trial;
+use replay_rooms::Attempt;
 use text_print::Line;
 
 // The encoding of a packet, tried in rooms.
@@ -23,7 +23,7 @@ struct Encoding<'d> {
     src: &'d [u8],
 }
 
-impl<'d> Trial for Encoding<'d> {
+impl<'d> Attempt for Encoding<'d> {
     ghost answer = { λ e out. written_of (encoded e.att e.src.now) out };
 
     ghost after = { λ e out. laid_of (encoded e.att e.src.now) out };

@@ -13,7 +13,7 @@ use codec::{Error, Refusal};
 use text_print::Line;
 
 // A call that is to be tried: what it is called with stands in the value, all but the buffer.
-pub trait Trial {
+pub trait Attempt {
     ghost answer: { Self → List ℕ → Result ℕ Error };
 
     ghost after: { Self → List ℕ → List ℕ };
@@ -55,42 +55,42 @@ fn written(w: Result<usize, Error>, full: &[u8], out: &[u8], v: u8) -> bool
 }
 
 // One room, over bytes v: refused with this number and nothing written, or written whole.
-fn refuses<T: Trial>(trial: &T, number: u8, room: usize, v: u8) -> bool {
+fn refuses<T: Attempt>(attempt: &T, number: u8, room: usize, v: u8) -> bool {
     let mut out = [v; 1032];
     if 1032 < room {
         return false;
     }
     let out = &mut out[..room];
-    untouched(trial.write(out), number, out, v)
+    untouched(attempt.write(out), number, out, v)
 }
 
 // Kept beside `refuses`: a closure for the test would stand in each of four calls (no plainer).
-fn writes<T: Trial>(trial: &T, full: &[u8], room: usize, v: u8) -> bool {
+fn writes<T: Attempt>(attempt: &T, full: &[u8], room: usize, v: u8) -> bool {
     let mut out = [v; 1032];
     if 1032 < room {
         return false;
     }
     let out = &mut out[..room];
-    written(trial.write(out), full, out, v)
+    written(attempt.write(out), full, out, v)
 }
 
 // How many rooms from 0 on refuse with this number, and how many from there on are written.
-pub fn refusing<T: Trial>(trial: &T, number: u8, most: usize) -> usize
+pub fn refusing<T: Attempt>(attempt: &T, number: u8, most: usize) -> usize
     ensures { result ≤ most }
 {
     for room in 0..most {
-        if !(refuses(trial, number, room, 0xAA) && refuses(trial, number, room, 0x55)) {
+        if !(refuses(attempt, number, room, 0xAA) && refuses(attempt, number, room, 0x55)) {
             return room;
         }
     }
     most
 }
 
-fn writing<T: Trial>(trial: &T, full: &[u8], from: usize, most: usize) -> usize
+fn writing<T: Attempt>(attempt: &T, full: &[u8], from: usize, most: usize) -> usize
     requires { from ≤ most }
 {
     for room in from..most {
-        if !(writes(trial, full, room, 0xAA) && writes(trial, full, room, 0x55)) {
+        if !(writes(attempt, full, room, 0xAA) && writes(attempt, full, room, 0x55)) {
             return room - from;
         }
     }
@@ -108,7 +108,7 @@ fn rooms(line: &mut Line<'_>, name: &[u8], untouched: usize, encoded: usize)
 
 // ROOMS of a call that is to write these bytes, behind a text.
 #[tactic(auto, using(crate::proofs::Kept::kept))]
-pub fn tried<T: Trial>(trial: &T, full: &[u8], line: &mut Line<'_>, name: &[u8])
+pub fn tried<T: Attempt>(attempt: &T, full: &[u8], line: &mut Line<'_>, name: &[u8])
     // The line keeps its length; its words are compared with the Rust, and not proved.
     ensures { length line.new.out.now ≡ length line.old.out.now }
 {
@@ -117,6 +117,6 @@ pub fn tried<T: Trial>(trial: &T, full: &[u8], line: &mut Line<'_>, name: &[u8])
         line.text(b" too long");
         return;
     }
-    let refused = refusing(trial, 1, n + 4);
-    rooms(line, name, refused, writing(trial, full, refused, n + 4));
+    let refused = refusing(attempt, 1, n + 4);
+    rooms(line, name, refused, writing(attempt, full, refused, n + 4));
 }

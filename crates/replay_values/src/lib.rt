@@ -17,7 +17,7 @@ use ble_uuid::{Raw, Uuid};
 use codec::Error;
 use primitives::Primitive;
 use replay_base::Digits;
-use replay_rooms::Trial;
+use replay_rooms::Attempt;
 use text_print::Line;
 
 // The text of an error code, tried in rooms.
@@ -26,7 +26,7 @@ struct TextOf {
     code: u8,
 }
 
-impl Trial for TextOf {
+impl Attempt for TextOf {
     ghost answer = { λ t out. written (text_of t.code) out };
 
     ghost after = { λ t out. laid (text_of t.code) out };

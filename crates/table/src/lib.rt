@@ -9,9 +9,8 @@
 ghost use Rattle.std.specs.Prelude.{◌≡◌, length};
 ghost use Rattle.attributes.specs.Soundness.{sound_table};
 ghost use Rattle.attributes.specs.Ledger.{lookup_refusal, looked_up};
-ghost use Rattle.attributes.specs.Records.{entries};
-ghost use Rattle.attributes.specs.Additions.{empty_table, new_table, used, fresh_place, fresh, add_refusal, appended, added, table_after, left_by};
-ghost use Rattle.attributes.specs.Stores.{own_refusal, relengthed, stored, stored_live};
+ghost use Rattle.attributes.specs.Additions.{empty_table, new_table, fresh_place, fresh, added, table_after, added_table};
+ghost use Rattle.attributes.specs.Stores.{stored, stored_table, stored_live};
 
 use attributes::{Addition, Place, Record, Room, Table};
 use codec::Refusal;
@@ -46,8 +45,7 @@ pub fn sound_for(t: Table, fixed_len: usize, live_len: usize) -> bool
 #[tactic(auto, unfolding(attributes::specs::Additions::added, attributes::specs::Additions::add_refusal, table_rules::specs::Walks::walked_table))]
 pub fn add(t: Table, a: Addition, fixed: &[u8], live: &[u8]) -> Result<Table, Refusal>
     ensures value { result ≡ added t a (length fixed.now) (length live.now) }
-    ensures table_after { table_after t result
-        ≡ left_by (add_refusal t a (length fixed.now) (length live.now)) (appended t (fresh (used 0 (entries t)) a)) t }
+    ensures table_after { table_after t result ≡ added_table t a (length fixed.now) (length live.now) }
 {
     let walked = table_rules::walk(t, fixed.len(), live.len()).ok_or(Refusal::BadTable)?;
     if 64 <= t.count {
@@ -109,8 +107,7 @@ pub fn store(
     live: &mut [u8],
 ) -> Result<Table, Refusal>
     ensures value { result ≡ stored t handle value.now fixed.now live.old }
-    ensures table_after { table_after t result
-        ≡ left_by (own_refusal t handle (length value.now) fixed.now live.old) (relengthed t handle (length value.now)) t }
+    ensures table_after { table_after t result ≡ stored_table t handle value.now fixed.now live.old }
     ensures live_after { live.new ≡ stored_live t handle value.now fixed.now live.old }
 {
     table_store::store(t, handle, value, fixed, live)
