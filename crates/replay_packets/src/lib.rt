@@ -35,7 +35,7 @@ impl<'d> Attempt for Encoding<'d> {
 
 // ROOMS of the encoding of a packet, behind a text.
 fn rooms(att: Att, src: &[u8], full: &[u8], reply: &mut Line<'_>, name: &[u8]) {
-    replay_rooms::tried(&Encoding { att, src }, full, reply, name);
+    replay_rooms::attempt_tried(&Encoding { att, src }, full, reply, name);
 }
 
 // ROOMS, of what the line shows that encoding writes: the packet itself where it is strict.
@@ -133,7 +133,11 @@ fn request(op: u8, start: u16, end: u16, kind: Uuid) -> Att {
 fn not_encoded(att: Att, e: Error, reply: &mut Line<'_>) {
     replay_base::refused(reply, b"", e);
     size(att, reply);
-    let n = replay_rooms::refusing(&Encoding { att, src: b"" }, u8::from(Refusal::from(e)), 25);
+    let n = replay_rooms::attempt_refusing(
+        &Encoding { att, src: b"" },
+        u8::from(Refusal::from(e)),
+        25,
+    );
     text_put::count(reply, b" ", n as u64);
 }
 

@@ -38,7 +38,7 @@ impl Attempt for TextOf {
 
 fn text_reply(code: u8, full: &[u8], reply: &mut Line<'_>) {
     reply.decimal(full.len() as u64);
-    replay_rooms::tried(&TextOf { code }, full, reply, b" ");
+    replay_rooms::attempt_tried(&TextOf { code }, full, reply, b" ");
     reply.text(b" ");
     reply.text(full);
 }
