@@ -201,7 +201,7 @@ pub fn tried<F: Fn(&mut [u8]) -> Result<usize, Error>>(
     name: &[u8],
 )
     requires { F.IsAlwaysCallable call.now }
-    // The line keeps its length; its words are compared with the Rust, and not proved.
+    // The line keeps its length; its words are not proved, and a test has them.
     ensures { length line.new.out.now ≡ length line.old.out.now }
 {
     let n = full.len();
